@@ -1,0 +1,52 @@
+-- The machine's operations on words of k bits, as sets: a shifted one is a single unit, and a mask with a complement is a difference.
+use mathlib.Core.Path.{_≡_, refl, sym, ap, _∙_}
+use mathlib.Core.Logic.{_⊎_, inl, inr}
+use mathlib.Core.Bool.{Bool, true, false, not}
+use Prim.Native.Nat.{ℕ, zero, suc, _+_, _-_, _*_, _/_, _%_, _^_, _≤_, _<_, min}
+use native.Mathlib.Nat.{pow-suc}
+use native.Mathlib.Decide.{ℕ-discrete}
+use native.Mathlib.Omega.{arith}
+use borrow.Author.Tests.{eq-eqb, ne-eqb}
+use lib.Bits.{bitAnd, and-step, and-le-l}
+use lib.Dec.{eqb, lit<}
+use lib.Pow.{pow-pos, shl-exact}
+use Rattle.units.specs.Sets.{bit, intersection, difference, contains}
+use Rattle.units.proofs.Sets.{bit-cases, bit-intersection, bit-single, bit-single-other, bit-empty, set-ext}
+
+-- a one shifted by a unit's number is that unit's weight
+pub one-shifted : (u : ℕ) → u < 64 → 1 * 2 ^ u % 2 ^ 64 ≡ 2 ^ u
+one-shifted u h = shl-exact {a = 1} 1 u 64 (lit< tt) (omega arith) ∙ omega arith
+
+-- what a mask with a complement is, from its halves
+joined : (a b low rest odd : ℕ) {both apart : ℕ} → rest ≡ a / 2 - low → odd ≡ 1 - b % 2 → low ≤ a / 2
+    → both ≡ low * 2 + min (a % 2) (b % 2) → apart ≡ rest * 2 + min (a % 2) odd → apart ≡ a - both
+joined a b low rest odd p q l e f = omega arith
+
+-- a mask with a complement is a difference
+pub and-not : (k a b : ℕ) → a < 2 ^ k → b < 2 ^ k → bitAnd a ((2 ^ k - 1) - b) ≡ difference a b
+unfolding difference
+and-not zero a b p q =
+    let e : a ≡ 0 = omega arith in
+    omega (arith, and-le-l a (2 ^ 0 - 1 - b), and-le-l a b)
+and-not (suc k) a b p q =
+    let half : (2 ^ suc k - 1 - b) / 2 ≡ 2 ^ k - 1 - b / 2 = omega (arith, pow-suc 2 k, pow-pos k) in
+    let odd : (2 ^ suc k - 1 - b) % 2 ≡ 1 - b % 2 = omega (arith, pow-suc 2 k, pow-pos k) in
+    let rest : bitAnd (a / 2) ((2 ^ suc k - 1 - b) / 2) ≡ a / 2 - bitAnd (a / 2) (b / 2) =
+    ap (λ (x : ℕ). bitAnd (a / 2) x) half ∙ and-not k (a / 2) (b / 2) (omega (arith, pow-suc 2 k)) (omega (arith, pow-suc 2 k)) in
+    joined a b (bitAnd (a / 2) (b / 2)) (bitAnd (a / 2) ((2 ^ suc k - 1 - b) / 2)) ((2 ^ suc k - 1 - b) % 2) rest odd (and-le-l (a / 2) (b / 2)) (and-step a b) (and-step a (2 ^ suc k - 1 - b))
+
+-- a mask with a single unit is not 0 exactly if the unit is in the set
+pub and-single : (s u : ℕ) → not (eqb (intersection s (2 ^ u)) 0) ≡ contains s u
+unfolding contains
+and-single s u = go (bit-cases s u)
+  where
+    go : (bit s u ≡ 0) ⊎ (bit s u ≡ 1) → not (eqb (intersection s (2 ^ u)) 0) ≡ eqb (bit s u) 1
+    go (inl e) =
+        ap not (eq-eqb (intersection s (2 ^ u)) 0 (set-ext (intersection s (2 ^ u)) 0 (λ v. none v (ℕ-discrete v u) ∙ sym (bit-empty v)))) ∙ sym (ne-eqb (bit s u) 1 (omega arith))
+      where
+        none : (v : ℕ) → Dec (v ≡ u) → bit (intersection s (2 ^ u)) v ≡ 0
+        none v (yes q) = omega (arith, bit-intersection s (2 ^ u) v, ap (λ (w : ℕ). bit s w) q)
+        none v (no n) = omega (arith, bit-intersection s (2 ^ u) v, bit-single-other u v n)
+    go (inr e) =
+        ap not (ne-eqb (intersection s (2 ^ u)) 0 (λ z. omega (arith, bit-intersection s (2 ^ u) u, bit-single u, ap (λ (x : ℕ). bit x u) z, bit-empty u)))
+        ∙ sym (eq-eqb (bit s u) 1 e)

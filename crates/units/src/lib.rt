@@ -1,0 +1,66 @@
+// Sets of units: a set is a u64 in which unit u has weight 2^u.
+//
+// Each function is one or two machine operations and ensures that its result is the set, size or test that specs/Sets.antt defines.
+// Those that take a unit require that it is below 64. They serve the crates above; none is an open entry of the library.
+ghost use mathlib.Core.Path.{_≡_};
+ghost use Prim.Native.Nat.{_<_};
+ghost use Rattle.units.specs.Sets.{union, intersection, difference, isSubset, contains, insert, remove, size};
+
+// The units of either set.
+pub fn union(a: u64, b: u64) -> u64
+    ensures { λ r. ⌜ r ≡ union a b ⌝ }
+{
+    a | b
+}
+
+// The units of both sets.
+pub fn intersection(a: u64, b: u64) -> u64
+    ensures { λ r. ⌜ r ≡ intersection a b ⌝ }
+{
+    a & b
+}
+
+// The units of a that are not in b.
+pub fn difference(a: u64, b: u64) -> u64
+    ensures { λ r. ⌜ r ≡ difference a b ⌝ }
+{
+    a & !b
+}
+
+// Whether each unit of a is in b.
+pub fn is_subset(a: u64, b: u64) -> bool
+    ensures { λ r. ⌜ r ≡ isSubset a b ⌝ }
+{
+    a & b == a
+}
+
+// Whether unit u is in s.
+pub fn contains(s: u64, u: u32) -> bool
+    requires { ⌜ u < 64 ⌝ }
+    ensures { λ r. ⌜ r ≡ contains s u ⌝ }
+{
+    s & (1u64 << u) != 0
+}
+
+// s with unit u.
+pub fn insert(s: u64, u: u32) -> u64
+    requires { ⌜ u < 64 ⌝ }
+    ensures { λ r. ⌜ r ≡ insert s u ⌝ }
+{
+    s | (1u64 << u)
+}
+
+// s without unit u.
+pub fn remove(s: u64, u: u32) -> u64
+    requires { ⌜ u < 64 ⌝ }
+    ensures { λ r. ⌜ r ≡ remove s u ⌝ }
+{
+    s & !(1u64 << u)
+}
+
+// How many units are in s.
+pub fn size(s: u64) -> u32
+    ensures { λ r. ⌜ r ≡ size s ⌝ }
+{
+    u64::count_ones(s)
+}
