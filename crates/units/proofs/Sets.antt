@@ -2,22 +2,22 @@
 -- and a size by what one unit more or less does to it and by the list of the units (`size-insert`, `size-units`).
 -- On digits the intersection is `min`, the union `max` and the difference `-`, so that omega proves each identity of sets unit by unit.
 use mathlib.Core.Path.{_≡_, refl, sym, ap, ap₂, _∙_, subst}
-use mathlib.Core.Logic.{_⊎_, inl, inr}
+use mathlib.Core.Logic.{_⊎_, inl, inr, _↔_}
 use mathlib.Core.Bool.{Bool, true, false, cond}
 use mathlib.Core.List.{List, [], _∷_, _++_, List·Memᴰ, List·Memᴰ·head, List·Memᴰ·not-nil, List·Memᴰ·append-cases, List·Memᴰ·eq-of-singleton, Memᴰ·append-left, Memᴰ·append-right}
 use Prim.Native.Nat.{ℕ, zero, suc, _+_, _-_, _*_, _/_, _%_, _^_, _≤_, _<_, min, max}
-use native.Mathlib.Nat.{pow-suc}
+use native.Mathlib.Nat.{pow-suc, mod-lt}
 use native.Mathlib.Numerals.{add-one, one-add}
-use native.Mathlib.Decide.{ℕ-discrete}
+use native.Mathlib.Decide.{ℕ-discrete, decLe}
 use native.Mathlib.Omega.{arith}
 use lib.Arith.{bin-ind}
 use lib.Bits.{bitAnd, bitOr, and-step, or-step, and-le-l, and-zero-l, or-zero-l}
 use lib.Count.{ones, ones-step}
-use lib.Dec.{eqb}
+use lib.Dec.{eqb, leb}
 use lib.ListN.{length, length-append}
-use lib.Pow.{pow-pos, shr-shr}
-use borrow.Author.Tests.{eqb-true, eqb-false, eq-eqb, ne-eqb}
-use Rattle.units.specs.Sets.{bit, union, intersection, difference, Subset, isSubset, contains, insert, remove, size, unitsBelow}
+use lib.Pow.{pow-pos, shr-shr, split}
+use borrow.Author.Tests.{eqb-true, eq-eqb, leb-true, le-leb}
+use Rattle.units.specs.Sets.{bit, union, intersection, difference, Subset, isSubset, contains, insert, remove, size, unitsBelow, hasUnitFrom}
 
 -- ---- the digits of a number
 
@@ -244,6 +244,27 @@ unit-below (suc k) s (suc u) h b = omega (arith, unit-below k (s / 2) u (omega (
 pub below-pow : (k s : ℕ) → ((u : ℕ) → k ≤ u → bit s u ≡ 0) → s < 2 ^ k
 below-pow zero s h = omega (arith, set-ext s 0 (λ u. h u (omega arith) ∙ sym (bit-empty u)))
 below-pow (suc k) s h = omega (arith, below-pow k (s / 2) (λ u l. sym (bit-suc s u) ∙ h (suc u) (omega arith)), pow-suc 2 k)
+
+-- the test that a set has a unit from d up holds exactly if there is one
+pub some-unit-from : (s d : ℕ) → hasUnitFrom s d ≡ true ↔ ((u : ℕ) × ((d ≤ u) × (bit s u ≡ 1)))
+unfolding hasUnitFrom bit
+some-unit-from s d = (found, tested)
+  where
+    filled : (q : ℕ) → s / 2 ^ d ≡ q → 2 ^ d ≤ s → 0 < q
+    filled zero e h = absurd (omega (arith, split s d, mod-lt s (pow-pos d), ap (λ (x : ℕ). x * 2 ^ d) e))
+    filled (suc q) e h = omega arith
+
+    found : leb (2 ^ d) s ≡ true → (u : ℕ) × ((d ≤ u) × (bit s u ≡ 1))
+    found t =
+        let r = some-unit (s / 2 ^ d) (filled (s / 2 ^ d) refl (leb-true (2 ^ d) s t)) in
+        (d + r .0, (omega arith, ap (λ (x : ℕ). x % 2) (sym (shr-shr s d (r .0))) ∙ r .1))
+
+    tested : ((u : ℕ) × ((d ≤ u) × (bit s u ≡ 1))) → leb (2 ^ d) s ≡ true
+    tested w = go (decLe (2 ^ d) s)
+      where
+        go : Dec (2 ^ d ≤ s) → leb (2 ^ d) s ≡ true
+        go (yes h) = le-leb (2 ^ d) s h
+        go (no n) = absurd (omega (arith, unit-below d s (w .0) (omega arith) (w .1 .1), w .1 .0))
 
 -- ---- the list of the units that a set names
 

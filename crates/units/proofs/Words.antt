@@ -3,13 +3,13 @@ use mathlib.Core.Path.{_≡_, refl, sym, ap, _∙_}
 use mathlib.Core.Logic.{_⊎_, inl, inr}
 use mathlib.Core.Bool.{Bool, true, false, not}
 use Prim.Native.Nat.{ℕ, zero, suc, _+_, _-_, _*_, _/_, _%_, _^_, _≤_, _<_, min}
-use native.Mathlib.Nat.{pow-suc}
-use native.Mathlib.Decide.{ℕ-discrete}
+use native.Mathlib.Nat.{pow-suc, mod-lt, div-eq-of-lt}
+use native.Mathlib.Decide.{ℕ-discrete, decLe}
 use native.Mathlib.Omega.{arith}
-use borrow.Author.Tests.{eq-eqb, ne-eqb}
+use borrow.Author.Tests.{eq-eqb, ne-eqb, le-leb, lt-leb}
 use lib.Bits.{bitAnd, and-step, and-le-l}
-use lib.Dec.{eqb, lit<}
-use lib.Pow.{pow-pos, shl-exact}
+use lib.Dec.{eqb, leb, lit<}
+use lib.Pow.{pow-pos, shl-exact, split}
 use Rattle.units.specs.Sets.{bit, intersection, difference, contains}
 use Rattle.units.proofs.Sets.{bit-cases, bit-intersection, bit-single, bit-single-other, bit-empty, set-ext}
 
@@ -50,3 +50,11 @@ and-single s u = go (bit-cases s u)
     go (inr e) =
         ap not (ne-eqb (intersection s (2 ^ u)) 0 (λ z. omega (arith, bit-intersection s (2 ^ u) u, bit-single u, ap (λ (x : ℕ). bit x u) z, bit-empty u)))
         ∙ sym (eq-eqb (bit s u) 1 e)
+
+-- a shift leaves something exactly if the number is as large as the shifted-out digits can not be
+pub shifted-out : (s d : ℕ) → not (eqb (s / 2 ^ d) 0) ≡ leb (2 ^ d) s
+shifted-out s d = go (decLe (2 ^ d) s)
+  where
+    go : Dec (2 ^ d ≤ s) → not (eqb (s / 2 ^ d) 0) ≡ leb (2 ^ d) s
+    go (yes h) = ap not (ne-eqb (s / 2 ^ d) 0 (λ e. omega (arith, split s d, mod-lt s (pow-pos d), ap (λ (q : ℕ). q * 2 ^ d) e, h))) ∙ sym (le-leb (2 ^ d) s h)
+    go (no n) = ap not (eq-eqb (s / 2 ^ d) 0 (div-eq-of-lt (omega arith))) ∙ sym (lt-leb (2 ^ d) s (omega arith))

@@ -5,7 +5,7 @@ use mathlib.Core.List.{List, [], _∷_, _++_}
 use mathlib.Core.Bool.{Bool, true, false, cond, not}
 use lib.Bits.{bitAnd, bitOr}
 use lib.Count.{ones}
-use lib.Dec.{eqb}
+use lib.Dec.{eqb, leb}
 
 -- 1 if unit u is in the set s, else 0
 unfoldable pub bit : ℕ → ℕ → ℕ
@@ -51,3 +51,7 @@ size s = ones s
 unfoldable pub unitsBelow : ℕ → ℕ → List ℕ
 unitsBelow zero s = []
 unitsBelow (suc k) s = unitsBelow k s ++ cond (contains s k) (k ∷ []) []
+
+-- the test that s has a unit from d up: it is then 2 ^ d or more
+unfoldable pub hasUnitFrom : ℕ → ℕ → Bool
+hasUnitFrom s d = leb (2 ^ d) s

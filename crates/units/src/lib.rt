@@ -3,8 +3,9 @@
 // Each function is one or two machine operations and ensures that its result is the set, size or test that specs/Sets.antt defines.
 // Those that take a unit require that it is below 64. They serve the crates above; none is an open entry of the library.
 ghost use mathlib.Core.Path.{_≡_};
-ghost use Prim.Native.Nat.{_<_};
-ghost use Rattle.units.specs.Sets.{union, intersection, difference, isSubset, contains, insert, remove, size};
+ghost use Prim.Native.Nat.{_<_, _≤_};
+ghost use Rattle.units.specs.Sets.{union, intersection, difference, isSubset, contains, insert, remove, size, hasUnitFrom};
+ghost use Rattle.units.specs.Limits.{hasFeasible};
 
 // The units of either set.
 pub fn union(a: u64, b: u64) -> u64
@@ -63,4 +64,33 @@ pub fn size(s: u64) -> u32
     ensures { λ r. ⌜ r ≡ size s ⌝ }
 {
     u64::count_ones(s)
+}
+
+// Whether s has a unit from d up.
+pub fn has_unit_from(s: u64, d: u32) -> bool
+    requires { ⌜ d ≤ 64 ⌝ }
+    ensures { λ r. ⌜ r ≡ hasUnitFrom s d ⌝ }
+{
+    if d == 64 {
+        return false;
+    }
+    s >> d != 0
+}
+
+// Whether some set includes lower, lies within upper and has a size from least to greatest.
+pub fn has_feasible(lower: u64, upper: u64, least: u8, greatest: u8) -> bool
+    ensures { λ r. ⌜ r ≡ hasFeasible lower upper least greatest ⌝ }
+{
+    if !is_subset(lower, upper) {
+        return false;
+    }
+    if greatest < least {
+        return false;
+    }
+    let greatest = greatest as u32;
+    let least = least as u32;
+    if greatest < size(lower) {
+        return false;
+    }
+    least <= size(upper)
 }
