@@ -1,0 +1,29 @@
+-- `sheet::numbers::u16_at` meets its contract.
+use Rattle.sheet.specs.Numbers.{u16At}
+use borrow.Author.Needs.{needs}
+use Rattle.sheet.proofs.numbers.u16_at.Statement.{statement}
+use Rattle.sheet.proofs.numbers.u16_at.Tie as tie
+
+byte-at-requires : tie.Need-byte-at-requires
+byte-at-requires c κs = search needs
+
+add-byte-at : tie.Need-add-byte-at
+add-byte-at c = search needs
+
+byte-at-requires-2 : tie.Need-byte-at-requires-2
+byte-at-requires-2 c κs = search needs
+
+mul-result : tie.Need-mul-result
+mul-result c = search needs
+
+add-result : tie.Need-add-result
+add-result c = search needs
+
+returns : tie.Need-returns
+unfolding u16At
+returns c = search needs
+
+pub u16-at-spec : {M : Type 1} → statement M
+u16-at-spec =
+    tie.close
+    (tie.spec byte-at-requires add-byte-at byte-at-requires-2 mul-result add-result returns)

@@ -1,0 +1,41 @@
+// One record of the sheet: where it lies, the step that it holds, and the number of the record after it.
+use super::Sheet;
+use super::Step;
+use super::numbers::u16_at;
+use super::numbers::u32_at;
+use super::numbers::u64_at;
+ghost use mathlib.Core.Path.{_≡_};
+ghost use Prim.Native.Nat.{_+_, _≤_, _<_, _^_};
+ghost use lib.ListN.{length};
+ghost use Rattle.sheet.specs.Format.{recordOffset, stepOf, nextOf};
+
+// Where record j lies.
+pub fn record_offset(j: usize) -> usize
+    requires { ⌜ recordOffset j < 2 ^ 64 ⌝ }
+    ensures { λ r. ⌜ r ≡ recordOffset j ⌝ }
+{
+    Sheet::RECORD_SIZE * j
+}
+
+// The step of record j, which lies whole within the bytes.
+pub fn step_at(s: &[u8], j: usize) -> Step
+    requires { ⌜ recordOffset (j + 1) ≤ length (now s) ⌝ }
+    ensures { λ r. ⌜ r ≡ stepOf (now (s .entry)) j ⌝ }
+{
+    let at = record_offset(j);
+    Step {
+        lower: u64_at(s, at),
+        upper: u64_at(s, at + 8),
+        least: s[at + 16],
+        greatest: s[at + 17],
+        tag: u32_at(s, at + 20) as u32,
+    }
+}
+
+// The number of the record after record j, 0 if there is none.
+pub fn next_at(s: &[u8], j: usize) -> usize
+    requires { ⌜ recordOffset (j + 1) ≤ length (now s) ⌝ }
+    ensures { λ r. ⌜ (r ≡ nextOf (now (s .entry)) j) × (r < 65536) ⌝ }
+{
+    u16_at(s, record_offset(j) + 18) as usize
+}
