@@ -1,5 +1,5 @@
 -- The layout of a sheet, as docs/FORMAT.md describes it: sizes and limits, the fields of the header and of a record.
-use Prim.Native.Nat.{ℕ, _+_, _*_}
+use Prim.Native.Nat.{ℕ, zero, suc, _+_, _*_}
 use mathlib.Core.List.{List, [], _∷_}
 use lib.ListN.{take}
 use Rattle.sheet.specs.declared.Header.{Header}
@@ -71,10 +71,11 @@ abbrev pub startOf : List ℕ → ℕ
 startOf s = u64At s 16
 
 abbrev pub header : List ℕ → Header
-header s = record { units = unitsOf s; records = recordsOf s; first = firstOf s; bound = boundOf s; start = startOf s }
+header s = record { units = unitsOf s; records = recordsOf s; bound = boundOf s; start = startOf s }
 
--- ---- record j: a step, and the number of the next record, 0 if it is the last
+-- ---- record j
 
+-- the step that it holds
 unfoldable pub stepOf : List ℕ → ℕ → Step
 stepOf s j =
     record {
@@ -85,5 +86,7 @@ stepOf s j =
       tag = u32At s (recordOffset j + 20);
     }
 
+-- the number that record j holds of the record after it, 0 if it is the last; for j = 0 the number of the first record, which the header holds
 unfoldable pub nextOf : List ℕ → ℕ → ℕ
-nextOf s j = u16At s (recordOffset j + 18)
+nextOf s zero = firstOf s
+nextOf s (suc j) = u16At s (recordOffset (suc j) + 18)

@@ -6,3 +6,4 @@ pub mod Format
 pub mod Numbers
 pub mod Reading
 pub mod Told
+pub mod Walking

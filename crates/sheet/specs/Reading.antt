@@ -69,7 +69,7 @@ pub record Opened : Type 0 where
   pub chain : List ℕ
 
 unfoldable pub openedOf : List ℕ → Answer Opened
-openedOf s = andThen (headerOf s) (λ h. andThen (chainOf s h) (λ on. Given (record { header = h; chain = on })))
+openedOf s = andThen (headerOf s) (λ h. andThen (chainOf s (h .records)) (λ on. Given (record { header = h; chain = on })))
 
 -- the campaign of an opened sheet
 abbrev pub campaignOf : List ℕ → Opened → Campaign

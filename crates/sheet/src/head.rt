@@ -84,7 +84,6 @@ fn read_numbers(s: &[u8]) -> HeaderAnswer
     HeaderAnswer::Good(Header {
         units: units as u32,
         records: records as u32,
-        first: u16_at(s, 8) as u32,
         bound: u16_at(s, 10) as u32,
         start,
     })

@@ -3,11 +3,15 @@
 //
 // The modules follow the data: numbers out of bytes, the header, the chain of records, one record as a step, and the open sheet,
 // which lends the bytes to those. Nothing here is an open entry of the library.
+pub mod chain;
 pub mod head;
 pub mod numbers;
 pub mod record;
+pub mod steps;
 
+use chain::Walk;
 ghost use mathlib.Core.Path.{_≡_};
+ghost use Rattle.sheet.specs.Walking.{atHeader};
 
 // What is sent back in place of a reply: a number of the refusal table, and the place it goes with.
 pub struct Refusal {
@@ -19,9 +23,22 @@ pub struct Refusal {
 pub struct Header {
     pub units: u32,
     pub records: u32,
-    pub first: u32,
     pub bound: u32,
     pub start: u64,
+}
+
+// What a sheet that passes the reader says, but for its steps themselves: how many they are stands for them.
+pub struct Summary {
+    pub units: u32,
+    pub steps: u32,
+    pub bound: u32,
+    pub start: u64,
+}
+
+// What the reader answers: a refusal, or what the sheet says.
+pub enum ReadAnswer {
+    Refused(Refusal),
+    Read(Summary),
 }
 
 // One step of the campaign: a record without its place in the chain.
@@ -55,4 +72,15 @@ impl<'a> Sheet<'a> {
     pub const RECORD_LIMIT: usize = 256;
     // The longest sheet.
     pub const LONGEST: usize = Sheet::RECORD_SIZE * (Sheet::RECORD_LIMIT + 1);
+
+    // The walk along the chain, before its first link: at the header, with no record met.
+    pub fn open_walk() -> Walk
+        ensures { λ r. ⌜ r ≡ atHeader ⌝ }
+    {
+        Walk {
+            marks: [0; 4],
+            at: 0,
+            steps: 0,
+        }
+    }
 }

@@ -32,10 +32,13 @@ pub fn step_at(s: &[u8], j: usize) -> Step
     }
 }
 
-// The number of the record after record j, 0 if there is none.
-pub fn next_at(s: &[u8], j: usize) -> usize
+// The number of the record after record j, or of the first record where j is 0, for the header; 0 if there is none.
+pub fn follow(s: &[u8], j: usize) -> usize
     requires { ⌜ recordOffset (j + 1) ≤ length (now s) ⌝ }
     ensures { λ r. ⌜ (r ≡ nextOf (now (s .entry)) j) × (r < 65536) ⌝ }
 {
+    if j == 0 {
+        return u16_at(s, 8) as usize;
+    }
     u16_at(s, record_offset(j) + 18) as usize
 }

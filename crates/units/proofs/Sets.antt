@@ -12,11 +12,11 @@ use native.Mathlib.Decide.{ℕ-discrete, decLe}
 use native.Mathlib.Omega.{arith}
 use lib.Arith.{bin-ind}
 use lib.Bits.{bitAnd, bitOr, and-step, or-step, and-le-l, and-zero-l, or-zero-l}
-use lib.Count.{ones, ones-step}
+use lib.Count.{ones, ones-step, ones-le}
 use lib.Dec.{eqb, leb}
 use lib.ListN.{length, length-append}
 use lib.Pow.{pow-pos, shr-shr, split}
-use borrow.Author.Tests.{eqb-true, eq-eqb, leb-true, le-leb}
+use borrow.Author.Tests.{eqb-true, eqb-false, eq-eqb, leb-true, le-leb}
 use Rattle.units.specs.Sets.{bit, union, intersection, difference, Subset, isSubset, contains, insert, remove, size, unitsBelow, hasUnitFrom}
 
 -- ---- the digits of a number
@@ -146,6 +146,26 @@ pub bit-remove-other : (s v u : ℕ) → (u ≡ v → ⊥) → bit (remove s v) 
 unfolding remove
 bit-remove-other s v u h = omega (arith, bit-difference s (2 ^ v) u, bit-single-other v u h)
 
+pub contains-insert : (s v : ℕ) → contains (insert s v) v ≡ true
+unfolding contains
+contains-insert s v = eq-eqb (bit (insert s v) v) 1 (bit-insert s v)
+
+pub contains-insert-other : (s v u : ℕ) → (u ≡ v → ⊥) → contains (insert s v) u ≡ contains s u
+unfolding contains
+contains-insert-other s v u h = ap (λ (x : ℕ). eqb x 1) (bit-insert-other s v u h)
+
+pub contains-empty : (u : ℕ) → contains 0 u ≡ false
+unfolding contains
+contains-empty u = ap (λ (x : ℕ). eqb x 1) (bit-empty u)
+
+pub outside : (s u : ℕ) → contains s u ≡ false → bit s u ≡ 0
+unfolding contains
+outside s u h = go (bit-cases s u)
+  where
+    go : (bit s u ≡ 0) ⊎ (bit s u ≡ 1) → bit s u ≡ 0
+    go (inl e) = e
+    go (inr e) = absurd (eqb-false (bit s u) 1 h e)
+
 -- ---- sizes
 
 pub size-step : (s : ℕ) → size s ≡ s % 2 + size (s / 2)
@@ -204,6 +224,11 @@ size-insert s v h = size-remove (insert s v) v (bit-insert s v) ∙ ap (λ (x : 
         go : Dec (u ≡ v) → bit (remove (insert s v) v) u ≡ bit s u
         go (yes e) = subst (λ (w : ℕ). bit (remove (insert s v) v) w ≡ bit s w) (sym e) (bit-remove (insert s v) v ∙ sym h)
         go (no n) = bit-remove-other (insert s v) v u n ∙ bit-insert-other s v u n
+
+-- units below k are k at the most
+pub size-below : (k s : ℕ) → s < 2 ^ k → size s ≤ k
+unfolding size
+size-below k s h = ones-le k s h
 
 -- a set that is not empty has a unit
 pub some-unit : (s : ℕ) → 0 < s → (u : ℕ) × (bit s u ≡ 1)

@@ -9,17 +9,17 @@ use denote.Ref.{now}
 use lib.ListN.{length}
 use mathlib.Core.List.{List, []}
 use Rattle.sheet.specs.Answer.{Given, unless}
-use Rattle.sheet.specs.Format.{unitLimit, recordLimit, sheetLength, unitsOf, recordsOf, reservedOf, firstOf, boundOf, startOf, header}
+use Rattle.sheet.specs.Format.{unitLimit, recordLimit, sheetLength, unitsOf, recordsOf, reservedOf, boundOf, startOf, header}
 use Rattle.sheet.specs.Reading.{headerCauses}
 use Rattle.sheet.proofs.Answers.{refused-by, passed-by}
 use Rattle.sheet.proofs.head.read_numbers.Statement.{statement}
 use Rattle.sheet.proofs.head.read_numbers.Tie as tie
 
 -- the header, from its numbers as they were read
-made : (s : List ℕ) {u r f b t : ℕ} → u ≡ unitsOf s → r ≡ recordsOf s → f ≡ firstOf s → b ≡ boundOf s → t ≡ startOf s
-    → Given (record { units = u; records = r; first = f; bound = b; start = t }) ≡ unless [] (Given (header s))
+made : (s : List ℕ) {u r b t : ℕ} → u ≡ unitsOf s → r ≡ recordsOf s → b ≡ boundOf s → t ≡ startOf s
+    → Given (record { units = u; records = r; bound = b; start = t }) ≡ unless [] (Given (header s))
 unfolding unless
-made s p q x y z = λ i. Given (record { units = p i; records = q i; first = x i; bound = y i; start = z i })
+made s p q y z = λ i. Given (record { units = p i; records = q i; bound = y i; start = z i })
 
 byte-at-requires : tie.Need-byte-at-requires
 byte-at-requires c κs = search needs
@@ -102,26 +102,19 @@ u16-at-requires-2 c κs = search needs
 cast-t20 : tie.Need-cast-t20
 cast-t20 c = search needs
 
-u16-at-requires-3 : tie.Need-u16-at-requires-3
-u16-at-requires-3 c κs = search needs
-
-cast-t22 : tie.Need-cast-t22
-cast-t22 c = search needs
-
 returns-7 : tie.Need-returns-7
 returns-7 c =
-    let s = now (c .before .before .before .before .before .before .before .before .before .before .before .before .before .before .args .s) in
+    let s = now (c .before .before .before .before .before .before .before .before .before .before .before .before .before .args .s) in
     (passed-by _ _ _ (ne-eqb (unitsOf s) 0 (omega arith))
     (passed-by _ _ _ (le-ltb unitLimit (unitsOf s) (omega arith))
     (passed-by _ _ _ (le-ltb recordLimit (recordsOf s) (omega arith))
     (passed-by _ _ _ (ap not (eq-eqb (reservedOf s) 0 (omega arith)))
     (passed-by _ _ _ (cc)
     (passed-by _ _ _ (ap not (eq-eqb (length s) (sheetLength (recordsOf s)) (omega arith)))
-    (made s (c .before .before .before .before .before .before .before .before .before .before .before .before .byte-at .ensures .0)
-    (c .before .before .before .before .before .before .before .before .before .u16-at .ensures .0)
-    (c .before .u16-at2 .ensures .0)
-    (c .u16-at3 .ensures .0)
-    (c .before .before .before .before .before .u64-at .ensures))))))))
+    (made s (c .before .before .before .before .before .before .before .before .before .before .before .byte-at .ensures .0)
+    (c .before .before .before .before .before .before .before .before .u16-at .ensures .0)
+    (c .u16-at2 .ensures .0)
+    (c .before .before .before .before .u64-at .ensures))))))))
 
 pub read-numbers-spec : {M : Type 1} → statement M
 read-numbers-spec =
@@ -145,6 +138,4 @@ read-numbers-spec =
     cast-t19
     u16-at-requires-2
     cast-t20
-    u16-at-requires-3
-    cast-t22
     returns-7)

@@ -1,0 +1,231 @@
+-- Laws on the walk along the chain.
+--
+-- `Met r on`: the records `on` the chain are distinct and between 1 and r, so that they are r at the most (`met-room`). They are told apart by
+-- a set that has each of them as a unit: its size is their number, and it has no unit but 1 to r.
+-- `Walked s r on w`: the walk's state w says what the definition says where the records `on` have been met, and what the definition still has to
+-- look at gives the whole chain.
+use mathlib.Core.Path.{_≡_, refl, sym, ap, _∙_, subst}
+use mathlib.Core.Logic.{_⊎_, inl, inr}
+use mathlib.Core.Bool.{Bool, true, false, cond, _||_}
+use mathlib.Core.List.{List, [], _∷_, _++_}
+use Prim.Native.Nat.{ℕ, zero, suc, _+_, _-_, _*_, _/_, _%_, _^_, _≤_, _<_}
+use native.Mathlib.Nat.{pow-suc}
+use native.Mathlib.Decide.{ℕ-discrete, decLe}
+use native.Mathlib.Omega.{arith}
+use lib.Dec.{ltb, eqb}
+use lib.ListN.{length, length-append, length-set, getD, set}
+use lib.Seq.{getD-set-same, getD-set-other}
+use borrow.Author.Tests.{eq-eqb, ne-eqb, lt-ltb, le-ltb}
+use Rattle.units.specs.Sets.{bit, contains, insert, size}
+use Rattle.units.proofs.Sets.{bit-empty, bit-zero, bit-insert-other, contains-insert, contains-insert-other, contains-empty, outside, size-empty, size-insert, size-step, size-below, unit-below, below-pow, bit-cases}
+use Rattle.sheet.specs.declared.chain.Walk.{Walk}
+use Rattle.sheet.specs.Answer.{Answer, Refused, Given, cause, unless, andThen}
+use Rattle.sheet.specs.Chain.{isIn, walk, chainOf}
+use Rattle.sheet.specs.Format.{nextOf, recordLimit}
+use Rattle.sheet.specs.Walking.{atHeader, isMet, onto, wordOf, bitOf}
+use Rattle.sheet.proofs.Answers.{refused-by, passed-by, none-left}
+
+-- ---- members of a list
+
+pub in-last : (j k : ℕ) (on : List ℕ) → isIn j (on ++ (k ∷ [])) ≡ (isIn j on || eqb j k)
+unfolding isIn
+in-last j k [] = or-false (eqb j k)
+  where
+    or-false : (b : Bool) → (b || false) ≡ b
+    or-false true = refl
+    or-false false = refl
+in-last j k (x ∷ on) = ap (λ b. eqb j x || b) (in-last j k on) ∙ or-assoc (eqb j x) (isIn j on) (eqb j k)
+  where
+    or-assoc : (a b c : Bool) → (a || (b || c)) ≡ ((a || b) || c)
+    or-assoc true b c = refl
+    or-assoc false b c = refl
+
+pub in-last-same : (k : ℕ) (on : List ℕ) → isIn k (on ++ (k ∷ [])) ≡ true
+in-last-same k on = in-last k k on ∙ ap (λ b. isIn k on || b) (eq-eqb k k refl) ∙ or-true (isIn k on)
+  where
+    or-true : (b : Bool) → (b || true) ≡ true
+    or-true true = refl
+    or-true false = refl
+
+pub in-last-other : (j k : ℕ) (on : List ℕ) → (j ≡ k → ⊥) → isIn j (on ++ (k ∷ [])) ≡ isIn j on
+in-last-other j k on h = in-last j k on ∙ ap (λ b. isIn j on || b) (ne-eqb j k h) ∙ or-false (isIn j on)
+  where
+    or-false : (b : Bool) → (b || false) ≡ b
+    or-false true = refl
+    or-false false = refl
+
+-- ---- distinct records
+
+pub record Met (r : ℕ) (on : List ℕ) : Type 0 where
+  pub as-set : ℕ
+  pub members : (j : ℕ) → isIn j on ≡ contains as-set j
+  pub counted : size as-set ≡ length on
+  pub none-is-zero : bit as-set 0 ≡ 0
+  pub within : as-set < 2 ^ suc r
+
+pub met-none : (r : ℕ) → Met r []
+unfolding isIn
+met-none r =
+    record {
+      as-set = 0;
+      members = λ j. sym (contains-empty j);
+      counted = size-empty;
+      none-is-zero = bit-empty 0;
+      within = below-pow (suc r) 0 (λ u h. bit-empty u);
+    }
+
+pub met-room : {r : ℕ} {on : List ℕ} → Met r on → length on ≤ r
+met-room {r} {on} m =
+    let x = m .as-set in
+    let half : size (x / 2) ≤ r = size-below r (x / 2) (omega (arith, m .within, pow-suc 2 r)) in
+    omega (arith, size-step x, bit-zero x, m .none-is-zero, m .counted)
+
+pub met-more : {r : ℕ} {on : List ℕ} (j : ℕ) → 0 < j → j ≤ r → isIn j on ≡ false → Met r on → Met r (on ++ (j ∷ []))
+met-more {r} {on} j pos le new m =
+    record {
+      as-set = insert x j;
+      members = λ k. member k (ℕ-discrete k j);
+      counted = size-insert x j absent ∙ omega (arith, m .counted, length-append on (j ∷ []));
+      none-is-zero = bit-insert-other x j 0 (omega arith) ∙ m .none-is-zero;
+      within = below-pow (suc r) (insert x j) (λ u h. bit-insert-other x j u (omega arith) ∙ high u h (bit-cases x u));
+    }
+  where
+    x : ℕ
+    x = m .as-set
+
+    absent : bit x j ≡ 0
+    absent = outside x j (sym (m .members j) ∙ new)
+
+    high : (u : ℕ) → suc r ≤ u → (bit x u ≡ 0) ⊎ (bit x u ≡ 1) → bit x u ≡ 0
+    high u h (inl e) = e
+    high u h (inr e) = absurd (omega (arith, h, unit-below (suc r) x u (m .within) e))
+
+    member : (k : ℕ) → Dec (k ≡ j) → isIn k (on ++ (j ∷ [])) ≡ contains (insert x j) k
+    member k (yes e) = subst (λ (i : ℕ). isIn i (on ++ (j ∷ [])) ≡ contains (insert x j) i) (sym e) (in-last-same j on ∙ sym (contains-insert x j))
+    member k (no n) = in-last-other k j on n ∙ m .members k ∙ sym (contains-insert-other x j k n)
+
+-- ---- the definition, one link at a time
+
+-- what the walk makes of the link of a holder: it ends, it is refused, or it goes on
+walk-ends : (k : ℕ) (s : List ℕ) (r : ℕ) (on : List ℕ) (holder : ℕ) → nextOf s holder ≡ 0 → walk (suc k) s r on holder ≡ Given on
+unfolding walk
+walk-ends k s r on holder e = simp (eq-eqb (nextOf s holder) 0 e)
+
+walk-looks : (k : ℕ) (s : List ℕ) (r : ℕ) (on : List ℕ) (holder : ℕ) → (nextOf s holder ≡ 0 → ⊥)
+    → unless (cause (ltb r (nextOf s holder)) 4 holder ∷ cause (isIn (nextOf s holder) on) 5 holder ∷ []) (walk k s r (on ++ (nextOf s holder ∷ [])) (nextOf s holder))
+    ≡ walk (suc k) s r on holder
+unfolding walk
+walk-looks k s r on holder n = rw (ne-eqb (nextOf s holder) 0 n)
+
+-- ---- the walk's state
+
+pub record Walked (s : List ℕ) (r : ℕ) (w : Walk) : Type 0 where
+  pub on : List ℕ
+  pub met : Met r on
+  pub words : length (w .marks) ≡ 4
+  pub marked : (j : ℕ) → 0 < j → j ≤ recordLimit → isMet w j ≡ isIn j on
+  pub counted : w .steps ≡ length on
+  pub inside : w .at ≤ r
+  pub rest : walk (suc (r - length on)) s r on (w .at) ≡ chainOf s r
+
+-- the number of records on the chain, as the reader tells it
+abbrev pub counted : List ℕ → ℕ → Answer ℕ
+counted s r = andThen (chainOf s r) (λ on. Given (length on))
+
+pub started : (s : List ℕ) (r : ℕ) → Walked s r atHeader
+unfolding isMet chainOf isIn
+started s r =
+    record {
+      on = [];
+      met = met-none r;
+      words = refl;
+      marked = λ j p q. unmarked (wordOf j) (bitOf j) (omega arith);
+      counted = refl;
+      inside = omega arith;
+      rest = ap (λ (k : ℕ). walk (suc k) s r [] 0) (omega arith);
+    }
+  where
+    unmarked : (k u : ℕ) → k < 4 → contains (getD (0 ∷ 0 ∷ 0 ∷ 0 ∷ []) k 0) u ≡ false
+    unmarked zero u h = contains-empty u
+    unmarked (suc zero) u h = contains-empty u
+    unmarked (suc (suc zero)) u h = contains-empty u
+    unmarked (suc (suc (suc zero))) u h = contains-empty u
+    unmarked (suc (suc (suc (suc k)))) u h = absurd (omega arith)
+
+-- a step sets the mark of its record and leaves the others
+mark-set : (w : Walk) (k : ℕ) (on : List ℕ) → wordOf k < length (w .marks) → 0 < k → (j : ℕ) → 0 < j → isMet w j ≡ isIn j on
+    → isMet (onto w k) j ≡ isIn j (on ++ (k ∷ []))
+unfolding isMet onto
+mark-set w k on room pos j p was = go (ℕ-discrete j k) (ℕ-discrete (wordOf j) (wordOf k))
+  where
+    x : ℕ
+    x = insert (getD (w .marks) (wordOf k) 0) (bitOf k)
+
+    go : Dec (j ≡ k) → Dec (wordOf j ≡ wordOf k) → contains (getD (set (w .marks) (wordOf k) x) (wordOf j) 0) (bitOf j) ≡ isIn j (on ++ (k ∷ []))
+    go (yes e) d =
+        subst (λ (i : ℕ). contains (getD (set (w .marks) (wordOf k) x) (wordOf i) 0) (bitOf i) ≡ isIn i (on ++ (k ∷ []))) (sym e)
+        (ap (λ (y : ℕ). contains y (bitOf k)) (getD-set-same (w .marks) (wordOf k) x 0 room) ∙ contains-insert (getD (w .marks) (wordOf k) 0) (bitOf k) ∙ sym (in-last-same k on))
+    go (no n) (yes e) =
+        ap (λ (i : ℕ). contains (getD (set (w .marks) (wordOf k) x) i 0) (bitOf j)) e
+        ∙ ap (λ (y : ℕ). contains y (bitOf j)) (getD-set-same (w .marks) (wordOf k) x 0 room)
+        ∙ contains-insert-other (getD (w .marks) (wordOf k) 0) (bitOf k) (bitOf j) (λ q. n (omega arith))
+        ∙ ap (λ (i : ℕ). contains (getD (w .marks) i 0) (bitOf j)) (sym e)
+        ∙ was
+        ∙ sym (in-last-other j k on n)
+    go (no n) (no m) =
+        ap (λ (y : ℕ). contains y (bitOf j)) (getD-set-other (w .marks) (wordOf k) (wordOf j) x 0 m) ∙ was ∙ sym (in-last-other j k on n)
+
+module _ {s : List ℕ} {r : ℕ} {w : Walk} (g : Walked s r w) where
+  pub ended : nextOf s (w .at) ≡ 0 → Given (w .steps) ≡ counted s r
+  unfolding andThen
+  ended e =
+      ap Given (g .counted)
+      ∙ ap (λ a. andThen a (λ on. Given (length on))) (sym (walk-ends (r - length (g .on)) s r (g .on) (w .at) e) ∙ g .rest)
+
+  looked : (z : nextOf s (w .at) ≡ 0 → ⊥) (n p : ℕ)
+      → Refused n p ≡ unless (cause (ltb r (nextOf s (w .at))) 4 (w .at) ∷ cause (isIn (nextOf s (w .at)) (g .on)) 5 (w .at) ∷ []) (walk (r - length (g .on)) s r (g .on ++ (nextOf s (w .at) ∷ [])) (nextOf s (w .at)))
+      → Refused n p ≡ counted s r
+  unfolding andThen
+  looked z n p e = ap (λ a. andThen a (λ on. Given (length on))) (e ∙ walk-looks (r - length (g .on)) s r (g .on) (w .at) z ∙ g .rest)
+
+  pub led-out : (nextOf s (w .at) ≡ 0 → ⊥) → r < nextOf s (w .at) → Refused 4 (w .at) ≡ counted s r
+  led-out z h = looked z 4 (w .at) (refused-by _ _ _ (lt-ltb r (nextOf s (w .at)) h))
+
+  module _ (lim : r ≤ recordLimit) (z : nextOf s (w .at) ≡ 0 → ⊥) (h : nextOf s (w .at) ≤ r) where
+    pub met-again : isMet w (nextOf s (w .at)) ≡ true → Refused 5 (w .at) ≡ counted s r
+    met-again m =
+        looked z 5 (w .at)
+        (passed-by _ _ _ (le-ltb r (nextOf s (w .at)) h) (refused-by _ _ _ (sym (g .marked (nextOf s (w .at)) (omega arith) (omega arith)) ∙ m)))
+
+    module _ (m : isMet w (nextOf s (w .at)) ≡ false) where
+      new : isIn (nextOf s (w .at)) (g .on) ≡ false
+      new = sym (g .marked (nextOf s (w .at)) (omega arith) (omega arith)) ∙ m
+
+      pub one-more : Met r (g .on ++ (nextOf s (w .at) ∷ []))
+      one-more = met-more (nextOf s (w .at)) (omega arith) h new (g .met)
+
+      pub room : w .steps < r
+      room = omega (arith, met-room one-more, length-append (g .on) (nextOf s (w .at) ∷ []), g .counted)
+
+      pub onward : Walked s r (onto w (nextOf s (w .at)))
+      unfolding onto
+      onward =
+          record {
+            on = g .on ++ (nextOf s (w .at) ∷ []);
+            met = one-more;
+            words = length-set (w .marks) (wordOf (nextOf s (w .at))) _ ∙ g .words;
+            marked = λ j p q. mark-set w (nextOf s (w .at)) (g .on) (omega (arith, g .words)) (omega arith) j p (g .marked j p q);
+            counted = omega (arith, length-append (g .on) (nextOf s (w .at) ∷ []), g .counted);
+            inside = h;
+            rest = gone-on;
+          }
+        where
+          less : r - length (g .on) ≡ suc (r - length (g .on ++ (nextOf s (w .at) ∷ [])))
+          less = omega (arith, met-room one-more, length-append (g .on) (nextOf s (w .at) ∷ []))
+
+          gone-on : walk (suc (r - length (g .on ++ (nextOf s (w .at) ∷ [])))) s r (g .on ++ (nextOf s (w .at) ∷ [])) (nextOf s (w .at)) ≡ chainOf s r
+          gone-on =
+              ap (λ (k : ℕ). walk k s r (g .on ++ (nextOf s (w .at) ∷ [])) (nextOf s (w .at))) (sym less)
+              ∙ passed-by _ _ _ (le-ltb r (nextOf s (w .at)) h) (passed-by _ _ _ new (none-left _))
+              ∙ walk-looks (r - length (g .on)) s r (g .on) (w .at) z
+              ∙ g .rest

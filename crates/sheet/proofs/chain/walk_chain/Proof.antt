@@ -1,0 +1,78 @@
+-- `sheet::chain::walk_chain` meets its contract. The loop's invariant is `Walked`: the state says what the definition has met so far, and what
+-- the definition still has to look at is the whole chain. The measure is the number of records not yet met, and one.
+use mathlib.Core.Path.{_≡_, sym, ap, _∙_}
+use Prim.Native.Nat.{ℕ, suc, _-_}
+use native.Mathlib.Omega.{arith}
+use borrow.Author.Needs.{needs}
+use denote.Ref.{now}
+use Rattle.sheet.specs.declared.chain.Walk.{Walk}
+use Rattle.sheet.specs.Walking.{isMet, onto}
+use Rattle.sheet.proofs.Chains.{Walked, started, ended, led-out, met-again, room, onward, met-room}
+use Rattle.sheet.proofs.chain.walk_chain.Statement.{statement}
+use Rattle.sheet.proofs.chain.walk_chain.Tie as tie
+
+abbrev Inv-walk : tie.InvT-walk
+Inv-walk s records walk₀ walk = Walked s records walk
+
+abbrev μ-walk : tie.MeasureT-walk
+μ-walk s records walk₀ walk = suc records - walk .steps
+
+open-walk-requires : tie.Need-open-walk-requires Inv-walk μ-walk
+open-walk-requires c κs = search needs
+
+walk-holds : tie.Need-walk-holds Inv-walk μ-walk
+walk-holds c = rw (c .open-walk .ensures) (started (now (c .before .before .args .s)) (c .before .before .args .records))
+
+follow-requires : tie.Need-follow-requires Inv-walk μ-walk
+follow-requires c κs = omega (arith, c .walk .inv .inside)
+
+cast-t7 : tie.Need-cast-t7 Inv-walk μ-walk
+cast-t7 c = omega (arith, c .before .before .before .walk .inv .counted, met-room (c .before .before .before .walk .inv .met))
+
+returns : tie.Need-returns Inv-walk μ-walk
+returns c = ended (c .before .before .before .walk .inv) (sym (c .before .before .follow .ensures .0) ∙ c .before .if1 .taken)
+
+cast-t8 : tie.Need-cast-t8 Inv-walk μ-walk
+cast-t8 c = omega (arith, c .before .before .before .walk .inv .inside)
+
+returns-2 : tie.Need-returns-2 Inv-walk μ-walk
+returns-2 c = led-out (c .before .before .before .walk .inv) (omega (arith, c .before .before .follow .ensures .0)) (omega (arith, c .before .before .follow .ensures .0))
+
+has-met-requires : tie.Need-has-met-requires Inv-walk μ-walk
+has-met-requires c κs = omega arith
+
+step-onto-requires : tie.Need-step-onto-requires Inv-walk μ-walk
+step-onto-requires c κs = (omega arith, omega arith, omega (arith, room (c .before .before .before .before .before .walk .inv) (omega arith) (omega (arith, c .before .before .before .before .follow .ensures .0)) (omega (arith, c .before .before .before .before .follow .ensures .0)) (ap (isMet (c .before .before .before .before .before .walk .walk)) (sym (c .before .before .before .before .follow .ensures .0)) ∙ sym (c .before .has-met .ensures) ∙ c .if3 .left)))
+
+walk-less : tie.Need-walk-less Inv-walk μ-walk
+unfolding onto
+walk-less c = omega (arith, room (c .before .before .before .before .before .before .walk .inv) (omega arith) (omega (arith, c .before .before .before .before .before .follow .ensures .0)) (omega (arith, c .before .before .before .before .before .follow .ensures .0)) (ap (isMet (c .before .before .before .before .before .before .walk .walk)) (sym (c .before .before .before .before .before .follow .ensures .0)) ∙ sym (c .before .before .has-met .ensures) ∙ c .before .if3 .left), ap (λ (w : Walk). w .steps) (c .step-onto .ensures))
+
+walk-again : tie.Need-walk-again Inv-walk μ-walk
+walk-again c = rw (c .step-onto .ensures ∙ ap (onto (c .before .before .before .before .before .before .walk .walk)) (c .before .before .before .before .before .follow .ensures .0)) (onward (c .before .before .before .before .before .before .walk .inv) (omega arith) (omega (arith, c .before .before .before .before .before .follow .ensures .0)) (omega (arith, c .before .before .before .before .before .follow .ensures .0)) (ap (isMet (c .before .before .before .before .before .before .walk .walk)) (sym (c .before .before .before .before .before .follow .ensures .0)) ∙ sym (c .before .before .has-met .ensures) ∙ c .before .if3 .left))
+
+cast-t11 : tie.Need-cast-t11 Inv-walk μ-walk
+cast-t11 c = omega (arith, c .before .before .before .before .before .before .walk .inv .inside)
+
+returns-3 : tie.Need-returns-3 Inv-walk μ-walk
+returns-3 c = met-again (c .before .before .before .before .before .before .walk .inv) (omega arith) (omega (arith, c .before .before .before .before .before .follow .ensures .0)) (omega (arith, c .before .before .before .before .before .follow .ensures .0)) (ap (isMet (c .before .before .before .before .before .before .walk .walk)) (sym (c .before .before .before .before .before .follow .ensures .0)) ∙ sym (c .before .before .has-met .ensures) ∙ c .before .if3 .taken)
+
+pub walk-chain-spec : {M : Type 1} → statement M
+walk-chain-spec =
+    tie.close
+    (tie.spec
+    Inv-walk
+    μ-walk
+    open-walk-requires
+    walk-holds
+    follow-requires
+    cast-t7
+    returns
+    cast-t8
+    returns-2
+    has-met-requires
+    step-onto-requires
+    walk-less
+    walk-again
+    cast-t11
+    returns-3)
