@@ -3,5 +3,6 @@
 pub mod Answers
 pub mod Chains
 mod Letters
+pub mod Readings
 pub mod Records
 mod Searches

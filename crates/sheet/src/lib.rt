@@ -6,6 +6,7 @@
 pub mod chain;
 pub mod head;
 pub mod numbers;
+pub mod open;
 pub mod record;
 pub mod steps;
 
