@@ -1,5 +1,6 @@
 // The open sheet: the lent bytes with the numbers of their header.
 use super::chain::{walk_chain, ChainAnswer};
+use super::head::{read_header, HeaderAnswer};
 use super::steps::search_steps;
 use super::{Header, ReadAnswer};
 
@@ -16,5 +17,15 @@ pub fn read_records(s: &[u8], h: Header) -> ReadAnswer
     match walk_chain(s, h.records as usize) {
         ChainAnswer::Refused(x) => ReadAnswer::Refused(x),
         ChainAnswer::Ended(n) => search_steps(s, h, n),
+    }
+}
+
+// What the bytes say: the first refusal of 1 to 7, or the summary of the campaign.
+pub fn read(bytes: &[u8]) -> ReadAnswer
+    ensures { λ r. ⌜ readTold r ≡ summaryRead (now (bytes .entry)) ⌝ }
+{
+    match read_header(bytes) {
+        HeaderAnswer::Refused(x) => ReadAnswer::Refused(x),
+        HeaderAnswer::Good(h) => read_records(bytes, h),
     }
 }

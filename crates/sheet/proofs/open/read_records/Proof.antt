@@ -13,28 +13,19 @@ use Rattle.sheet.proofs.Answers.{turned-refused, turned-given}
 use Rattle.sheet.proofs.Readings.{header-sound, chain-sound, chain-refuses, steps-decide}
 use Rattle.sheet.proofs.open.read_records.Statement.{statement}
 use Rattle.sheet.proofs.open.read_records.Tie as tie
-use Rattle.sheet.proofs.open.read_records.Reads as reads
-use Rattle.sheet.proofs.open.read_records.Lts as lts
-use Rattle.sheet.proofs.chain.walk_chain.Reads as walk-chain-reads
-use Rattle.sheet.proofs.steps.search_steps.Reads as search-steps-reads
 
--- src/open.rt:16:25
 cast-walk-chain : tie.Need-cast-walk-chain
 cast-walk-chain c = search needs
 
--- src/open.rt:16:11
 walk-chain-requires : tie.Need-walk-chain-requires
 walk-chain-requires c κs = (header-sound (c .before .before .pre) .whole, header-sound (c .before .before .pre) .few-records)
 
--- src/open.rt:17:30
 enum-known-x : tie.Need-enum-known-x
 enum-known-x c = search needs
 
--- src/open.rt:18:28
 enum-known-n : tie.Need-enum-known-n
 enum-known-n c = search needs
 
--- src/open.rt:18:34
 search-steps-requires : tie.Need-search-steps-requires
 search-steps-requires c κs =
     let s = now (c .before .before .before .before .before .before .args .s) in
@@ -44,14 +35,12 @@ search-steps-requires c κs =
     let chain = chain-sound sound (on .1 .0) in
     (sound .few-units, omega (arith, chain .few, on .1 .1, sound .few-records), subst (Inside s 0) (on .1 .1) (chain .inside))
 
--- src/open.rt:12:1
 returns : tie.Need-returns
 returns c =
     let s = now (c .before .before .before .before .before .before .args .s) in
     let h = c .before .before .before .before .before .before .args .h in
     chain-refuses s (c .before .before .before .before .before .before .pre) (turned-refused length (chainOf s (h .records)) _ _ (sym (ap chainTold (c .before .x .given .1)) ∙ c .before .before .before .walk-chain .ensures))
 
--- src/open.rt:12:1
 returns-2 : tie.Need-returns-2
 returns-2 c =
     let s = now (c .before .before .before .before .before .before .before .args .s) in

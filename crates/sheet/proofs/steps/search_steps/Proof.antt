@@ -9,11 +9,6 @@ use Rattle.sheet.specs.Told.{faultOf}
 use Rattle.sheet.proofs.Searches.{Searched, begun, all-sound, inside-now, faulty, sound}
 use Rattle.sheet.proofs.steps.search_steps.Statement.{statement}
 use Rattle.sheet.proofs.steps.search_steps.Tie as tie
-use Rattle.sheet.proofs.steps.search_steps.Reads as reads
-use Rattle.sheet.proofs.steps.search_steps.Lts as lts
-use Rattle.sheet.proofs.record.follow.Reads as follow-reads
-use Rattle.sheet.proofs.record.step_at.Reads as step-at-reads
-use Rattle.sheet.proofs.steps.fault.Reads as fault-reads
 
 abbrev Inv-search : tie.InvT-search
 Inv-search s h n at₀ i₀ number₀ at i number = Searched s h n at i
@@ -21,35 +16,27 @@ Inv-search s h n at₀ i₀ number₀ at i number = Searched s h n at i
 abbrev μ-search : tie.MeasureT-search
 μ-search s h n at₀ i₀ number₀ at i number = n - i
 
--- src/steps.rt:36:5
 search-holds : tie.Need-search-holds Inv-search μ-search
 search-holds c = begun (now (c .before .args .s)) (c .before .args .h) (c .before .args .n) (c .before .pre .2)
 
--- src/steps.rt:38:13
 returns : tie.Need-returns Inv-search μ-search
 returns c = all-sound (c .before .search .inv) (c .if1 .taken)
 
--- src/steps.rt:45:9
 follow-requires : tie.Need-follow-requires Inv-search μ-search
 follow-requires c κs = inside-now (c .before .search .inv) (c .if1 .left) .0
 
--- src/steps.rt:46:24
 step-at-requires : tie.Need-step-at-requires Inv-search μ-search
 step-at-requires c κs = omega (arith, inside-now (c .before .before .search .inv) (c .before .if1 .left) .1 .0, c .follow .ensures .0)
 
--- src/steps.rt:46:9
 fault-requires : tie.Need-fault-requires Inv-search μ-search
 fault-requires c κs = search needs
 
--- src/steps.rt:47:9
 add-i : tie.Need-add-i Inv-search μ-search
 add-i c = omega (arith, c .before .before .before .before .search .inv .within)
 
--- src/steps.rt:36:5
 search-less : tie.Need-search-less Inv-search μ-search
 search-less c = omega (arith, c .before .before .before .before .before .search .inv .within)
 
--- src/steps.rt:36:5
 search-again : tie.Need-search-again Inv-search μ-search
 search-again c =
     let g = c .before .before .before .before .before .search .inv in
@@ -58,7 +45,6 @@ search-again c =
     let found = c .before .fault .ensures ∙ ap (faultOf d) (c .before .before .step-at .ensures ∙ ap (stepOf s) (c .before .before .before .follow .ensures .0)) in
     rw (c .before .before .before .follow .ensures .0) (sound g (c .before .before .before .before .if1 .left) (sym found ∙ c .if2 .left))
 
--- src/steps.rt:29:1
 returns-2 : tie.Need-returns-2 Inv-search μ-search
 returns-2 c =
     let g = c .before .before .before .before .before .search .inv in
