@@ -54,3 +54,15 @@ pub turned-given : {A B : Type 0} (f : A → B) (a : Answer A) (b : B) → Given
 unfolding andThen
 turned-given f (Refused m q) b e = absurd (let z : _≡_ {A = ℕ} 0 1 = cc in omega arith)
 turned-given f (Given x) b e = (x, (refl, (cc)))
+
+-- a value that is given after another: both were given
+pub then-given : {A B : Type 0} (a : Answer A) (f : A → Answer B) (b : B) → andThen a f ≡ Given b → (x : A) × ((a ≡ Given x) × (f x ≡ Given b))
+unfolding andThen
+then-given (Refused n p) f b e = absurd (let z : _≡_ {A = ℕ} 0 1 = cc in omega arith)
+then-given (Given x) f b e = (x, (refl, e))
+
+-- a value that is given unless a cause holds is that value
+pub unless-given : {A : Type 0} (cs : List Cause) (a v : A) → unless cs (Given a) ≡ Given v → a ≡ v
+unfolding unless
+unless-given [] a v e = given-same e
+unless-given (c ∷ cs) a v e = unless-given cs a v (passed-first c cs (Given a) e .1)

@@ -13,9 +13,9 @@ use Rattle.sheet.specs.declared.Step.{Step}
 use Rattle.sheet.specs.Answer.{Answer, Refused, Given, Cause, cause, unless, andThen}
 use Rattle.sheet.specs.Chain.{walk, chainOf, Inside, stepsFrom, isIn}
 use Rattle.sheet.specs.Format.{letters, lettersOf, headerSize, unitLimit, recordLimit, recordOffset, sheetLength, longest, unitsOf, recordsOf, reservedOf, startOf, header, nextOf, stepOf}
-use Rattle.sheet.specs.Reading.{same, headerOf, formCauses, headerCauses, openedOf, campaignOf, readingOf, stepsCauses, Opened}
+use Rattle.sheet.specs.Reading.{same, headerOf, formCauses, headerCauses, openedOf, campaignOf, readingOf, stepsCauses, Campaign, Opened}
 use Rattle.sheet.specs.Told.{summary, summaryOf, summaryRead}
-use Rattle.sheet.proofs.Answers.{passed-first, none-left, given-same, unless-turned}
+use Rattle.sheet.proofs.Answers.{passed-first, none-left, given-same, unless-turned, then-given, unless-given}
 use Rattle.sheet.proofs.Chains.{Met, met-none, met-more, met-room}
 
 -- ---- the header
@@ -143,3 +143,46 @@ module _ (s : List ℕ) {h : Header} (e : headerOf s ≡ Given h) where
       rw (e, f)
       (ap₂ (λ xs n. unless (stepsCauses (h .units) 1 xs) (Given (summary h n))) (sym (chain-sound (header-sound e) f .steps)) (sym (length-map on (stepOf s)))
       ∙ sym (unless-turned summaryOf (stepsCauses (h .units) 1 (map (stepOf s) on)) (campaignOf s (record { header = h; chain = on }))))
+
+-- ---- a campaign that was read
+
+pub record Passed (s : List ℕ) (c : Campaign) : Type 0 where
+  pub header : Header
+  pub chain : List ℕ
+  pub header-given : headerOf s ≡ Given header
+  pub chain-given : chainOf s (header .records) ≡ Given chain
+  pub is-campaign : campaignOf s (record { header = header; chain = chain }) ≡ c
+  pub no-cause : unless (stepsCauses (header .units) 1 (map (stepOf s) chain)) (Given c) ≡ Given c
+
+pub reading-passed : (s : List ℕ) {c : Campaign} → readingOf s ≡ Given c → Passed s c
+unfolding readingOf openedOf
+reading-passed s {c} e =
+    let o = then-given (openedOf s) (λ o. unless (stepsCauses (o .header .units) 1 (campaignOf s o .steps)) (Given (campaignOf s o))) c e in
+    let h = then-given (headerOf s) (λ h. andThen (chainOf s (h .records)) (λ on. Given (record { header = h; chain = on }))) (o .0) (o .1 .0) in
+    let on = then-given (chainOf s (h .0 .records)) (λ on. Given (record { header = h .0; chain = on })) (o .0) (h .1 .1) in
+    let same = given-same (on .1 .1) in
+    let is = unless-given (stepsCauses (o .0 .header .units) 1 (campaignOf s (o .0) .steps)) (campaignOf s (o .0)) c (o .1 .1) in
+    record {
+      header = h .0;
+      chain = on .0;
+      header-given = h .1 .0;
+      chain-given = on .1 .0;
+      is-campaign = ap (campaignOf s) same ∙ is;
+      no-cause = subst (λ x. unless (stepsCauses (x .header .units) 1 (map (stepOf s) (x .chain))) (Given c) ≡ Given c) (sym same) (subst (λ y. unless (stepsCauses (o .0 .header .units) 1 (campaignOf s (o .0) .steps)) (Given y) ≡ Given c) is (o .1 .1)) }
+
+-- the steps of a campaign that was read are those of the records that follow the header, and those lie within the sheet
+pub record Walkable (s : List ℕ) (c : Campaign) : Type 0 where
+  pub inside : Inside s 0 (length (c .steps))
+  pub steps : c .steps ≡ stepsFrom s 0 (length (c .steps))
+  pub few : length (c .steps) ≤ recordLimit
+
+pub passed-walkable : (s : List ℕ) {c : Campaign} → Passed s c → Walkable s c
+passed-walkable s {c} p =
+    let sound = header-sound (p .header-given) in
+    let chain = chain-sound sound (p .chain-given) in
+    let many = length-map (p .chain) (stepOf s) in
+    subst (Walkable s) (p .is-campaign)
+    (record {
+      inside = subst (Inside s 0) (sym many) (chain .inside);
+      steps = chain .steps ∙ ap (stepsFrom s 0) (sym many);
+      few = omega (arith, many, chain .few, sound .few-records) })
