@@ -1,10 +1,11 @@
--- Laws on answers and on the causes of refusal that they are made of.
-use mathlib.Core.Path.{_≡_, refl, sym, ap, _∙_}
+-- Laws on answers: the first cause that holds is the refusal (`refused-exactly`), and a list of causes is decided part by part (`unless-append`).
+use mathlib.Core.Path.{_≡_, refl, sym, ap, _∙_, subst}
+use mathlib.Core.Logic.{_↔_}
 use mathlib.Core.Bool.{Bool, true, false, cond}
 use mathlib.Core.List.{List, [], _∷_, _++_}
 use Prim.Native.Nat.{ℕ}
 use native.Mathlib.Omega.{arith}
-use Rattle.sheet.specs.Answer.{Answer, Refused, Given, Cause, unless, andThen}
+use Rattle.sheet.specs.Answer.{Answer, Refused, Given, Cause, unless, First, here, later}
 
 -- the first cause holds, and so is the refusal
 pub refused-by : {A : Type 0} (c : Cause) (cs : List Cause) (a : Answer A) → c .holds ≡ true → Refused (c .number) (c .place) ≡ unless (c ∷ cs) a
@@ -20,6 +21,41 @@ pub none-left : {A : Type 0} (a : Answer A) → a ≡ unless [] a
 unfolding unless
 none-left a = refl
 
+-- the causes of two lists, those of the first before those of the second
+pub unless-append : {A : Type 0} (cs ds : List Cause) (a : Answer A) → unless (cs ++ ds) a ≡ unless cs (unless ds a)
+unfolding unless
+unless-append [] ds a = refl
+unless-append (c ∷ cs) ds a = ap (cond (c .holds) (Refused (c .number) (c .place))) (unless-append cs ds a)
+
+-- the first cause that holds is the refusal, whatever would be given without it
+pub first-refuses : {A : Type 0} {cs : List Cause} {n p : ℕ} → First cs n p → (a : Answer A) → Refused n p ≡ unless cs a
+first-refuses (here {c} {cs} h) a = refused-by c cs a h
+first-refuses (later {c} {cs} h f) a = passed-by c cs a h (first-refuses f a)
+
+-- a refusal is given exactly if its cause is the first that holds
+pub refused-exactly : {A : Type 0} (cs : List Cause) (v : A) (n p : ℕ) → unless cs (Given v) ≡ Refused n p ↔ First cs n p
+refused-exactly {A} cs v n p = (found cs, λ f. sym (first-refuses f (Given v)))
+  where
+    number : Answer A → ℕ
+    number (Refused m q) = m
+    number (Given w) = n
+
+    place : Answer A → ℕ
+    place (Refused m q) = q
+    place (Given w) = p
+
+    found : (cs : List Cause) → unless cs (Given v) ≡ Refused n p → First cs n p
+    found [] e = absurd (let z : _≡_ {A = ℕ} 0 1 = cc (none-left (Given v)) in omega arith)
+    found (c ∷ cs) e = go (found cs) (c .holds) refl
+      where
+        go : (unless cs (Given v) ≡ Refused n p → First cs n p) → (t : Bool) → c .holds ≡ t → First (c ∷ cs) n p
+        go ih true h = subst (λ a. First (c ∷ cs) (number a) (place a)) (refused-by c cs (Given v) h ∙ e) (here h)
+        go ih false h = later h (ih (passed-by c cs (Given v) h refl ∙ e))
+
+-- a refusal does not depend on what would be given
+pub refused-whatever : {A B : Type 0} (cs : List Cause) (v : A) {n p : ℕ} → Refused n p ≡ unless cs (Given v) → (b : Answer B) → Refused n p ≡ unless cs b
+refused-whatever cs v {n} {p} e b = first-refuses (refused-exactly cs v n p .0 (sym e)) b
+
 -- a value that is given is one
 pub given-same : {A : Type 0} {v w : A} → Given v ≡ Given w → v ≡ w
 given-same e = cc
@@ -33,36 +69,10 @@ passed-first {A} {v} c cs a = go (c .holds)
     go true e = absurd (let z : _≡_ {A = ℕ} 0 1 = cc in omega arith)
     go false e = (refl, e)
 
--- a value that is given unless a cause holds, turned into another
-pub unless-turned : {A B : Type 0} (f : A → B) (cs : List Cause) (a : A) → andThen (unless cs (Given a)) (λ x. Given (f x)) ≡ unless cs (Given (f a))
-unfolding unless andThen
-unless-turned f [] a = refl
-unless-turned f (c ∷ cs) a = go (c .holds) (unless-turned f cs a)
-  where
-    go : (t : Bool) → andThen (unless cs (Given a)) (λ x. Given (f x)) ≡ unless cs (Given (f a))
-        → andThen (cond t (Refused (c .number) (c .place)) (unless cs (Given a))) (λ x. Given (f x)) ≡ cond t (Refused (c .number) (c .place)) (unless cs (Given (f a)))
-    go true e = refl
-    go false e = e
+-- where a value is given, no cause holds, and any other answer would be given too
+pub all-passed : {A B : Type 0} (cs : List Cause) (a : Answer A) {w : A} → unless cs a ≡ Given w → (b : Answer B) → unless cs b ≡ b
+all-passed [] a e b = sym (none-left b)
+all-passed (c ∷ cs) a e b = let p = passed-first c cs _ e in sym (passed-by c cs b (p .0) (sym (all-passed cs a (p .1) b)))
 
--- what an answer was, before it was turned into another
-pub turned-refused : {A B : Type 0} (f : A → B) (a : Answer A) (n p : ℕ) → Refused n p ≡ andThen a (λ x. Given (f x)) → a ≡ Refused n p
-unfolding andThen
-turned-refused f (Refused m q) n p e = cc
-turned-refused f (Given x) n p e = absurd (let z : _≡_ {A = ℕ} 0 1 = cc in omega arith)
-
-pub turned-given : {A B : Type 0} (f : A → B) (a : Answer A) (b : B) → Given b ≡ andThen a (λ x. Given (f x)) → (x : A) × ((a ≡ Given x) × (f x ≡ b))
-unfolding andThen
-turned-given f (Refused m q) b e = absurd (let z : _≡_ {A = ℕ} 0 1 = cc in omega arith)
-turned-given f (Given x) b e = (x, (refl, (cc)))
-
--- a value that is given after another: both were given
-pub then-given : {A B : Type 0} (a : Answer A) (f : A → Answer B) (b : B) → andThen a f ≡ Given b → (x : A) × ((a ≡ Given x) × (f x ≡ Given b))
-unfolding andThen
-then-given (Refused n p) f b e = absurd (let z : _≡_ {A = ℕ} 0 1 = cc in omega arith)
-then-given (Given x) f b e = (x, (refl, e))
-
--- a value that is given unless a cause holds is that value
-pub unless-given : {A : Type 0} (cs : List Cause) (a v : A) → unless cs (Given a) ≡ Given v → a ≡ v
-unfolding unless
-unless-given [] a v e = given-same e
-unless-given (c ∷ cs) a v e = unless-given cs a v (passed-first c cs (Given a) e .1)
+pub unless-given : {A : Type 0} (cs : List Cause) (a : Answer A) {w : A} → unless cs a ≡ Given w → a ≡ Given w
+unless-given cs a e = sym (all-passed cs a e a) ∙ e

@@ -2,8 +2,7 @@
 --
 -- `Met r on`: the records `on` the chain are distinct and between 1 and r, so that they are r at the most (`met-room`). They are told apart by
 -- a set that has each of them as a unit: its size is their number, and it has no unit but 1 to r.
--- `Walked s r on w`: the walk's state w says what the definition says where the records `on` have been met, and what the definition still has to
--- look at gives the whole chain.
+-- `Walked s r w`: the walk's state w stands where the records `on` have been met, and the links still to be looked at decide as all links do.
 use mathlib.Core.Path.{_≡_, refl, sym, ap, _∙_, subst}
 use mathlib.Core.Logic.{_⊎_, inl, inr}
 use mathlib.Core.Bool.{Bool, true, false, cond, _||_}
@@ -19,9 +18,10 @@ use borrow.Author.Tests.{eq-eqb, ne-eqb, lt-ltb, le-ltb}
 use Rattle.units.specs.Sets.{bit, contains, insert, size}
 use Rattle.units.proofs.Sets.{bit-empty, bit-zero, bit-insert-other, contains-insert, contains-insert-other, contains-empty, outside, size-empty, size-insert, size-step, size-below, unit-below, below-pow, bit-cases}
 use Rattle.sheet.specs.declared.chain.Walk.{Walk}
-use Rattle.sheet.specs.Answer.{Answer, Refused, Given, cause, unless, andThen}
-use Rattle.sheet.specs.Chain.{isIn, walk, chainOf}
+use Rattle.sheet.specs.Answer.{Answer, Refused, Given, cause, unless}
+use Rattle.sheet.specs.Chain.{isIn, following, chainOf, linkCauses}
 use Rattle.sheet.specs.Format.{nextOf, recordLimit}
+use Rattle.sheet.specs.Told.{chainRead}
 use Rattle.sheet.specs.Walking.{atHeader, isMet, onto, wordOf, bitOf}
 use Rattle.sheet.proofs.Answers.{refused-by, passed-by, none-left}
 
@@ -106,18 +106,19 @@ met-more {r} {on} j pos le new m =
 
 -- ---- the definition, one link at a time
 
--- what the walk makes of the link of a holder: it ends, it is refused, or it goes on
-walk-ends : (k : ℕ) (s : List ℕ) (r : ℕ) (on : List ℕ) (holder : ℕ) → nextOf s holder ≡ 0 → walk (suc k) s r on holder ≡ Given on
-unfolding walk
-walk-ends k s r on holder e = simp (eq-eqb (nextOf s holder) 0 e)
+follow-ends : (k : ℕ) (s : List ℕ) (holder : ℕ) → nextOf s holder ≡ 0 → following (suc k) s holder ≡ []
+unfolding following
+follow-ends k s holder e = simp (eq-eqb (nextOf s holder) 0 e)
 
-walk-looks : (k : ℕ) (s : List ℕ) (r : ℕ) (on : List ℕ) (holder : ℕ) → (nextOf s holder ≡ 0 → ⊥)
-    → unless (cause (ltb r (nextOf s holder)) 4 holder ∷ cause (isIn (nextOf s holder) on) 5 holder ∷ []) (walk k s r (on ++ (nextOf s holder ∷ [])) (nextOf s holder))
-    ≡ walk (suc k) s r on holder
-unfolding walk
-walk-looks k s r on holder n = rw (ne-eqb (nextOf s holder) 0 n)
+follow-on : (k : ℕ) (s : List ℕ) (holder : ℕ) → (nextOf s holder ≡ 0 → ⊥) → following (suc k) s holder ≡ nextOf s holder ∷ following k s (nextOf s holder)
+unfolding following
+follow-on k s holder n = simp (ne-eqb (nextOf s holder) 0 n)
 
 -- ---- the walk's state
+
+-- what the links say from a holder on, where the records of a list have been met and k more may follow
+abbrev pub said : List ℕ → ℕ → List ℕ → ℕ → ℕ → Answer ℕ
+said s r on holder k = unless (linkCauses r on holder (following k s holder)) (Given (length on + length (following k s holder)))
 
 pub record Walked (s : List ℕ) (r : ℕ) (w : Walk) : Type 0 where
   pub on : List ℕ
@@ -126,11 +127,7 @@ pub record Walked (s : List ℕ) (r : ℕ) (w : Walk) : Type 0 where
   pub marked : (j : ℕ) → 0 < j → j ≤ recordLimit → isMet w j ≡ isIn j on
   pub counted : w .steps ≡ length on
   pub inside : w .at ≤ r
-  pub rest : walk (suc (r - length on)) s r on (w .at) ≡ chainOf s r
-
--- the number of records on the chain, as the reader tells it
-abbrev pub counted : List ℕ → ℕ → Answer ℕ
-counted s r = andThen (chainOf s r) (λ on. Given (length on))
+  pub rest : said s r on (w .at) (suc (r - length on)) ≡ chainRead s r
 
 pub started : (s : List ℕ) (r : ℕ) → Walked s r atHeader
 unfolding isMet chainOf isIn
@@ -142,9 +139,11 @@ started s r =
       marked = λ j p q. unmarked (wordOf j) (bitOf j) (omega arith);
       counted = refl;
       inside = omega arith;
-      rest = ap (λ (k : ℕ). walk (suc k) s r [] 0) (omega arith);
-    }
+      rest = ap (λ (k : ℕ). said s r [] 0 (suc k)) none ∙ ap (λ (n : ℕ). unless (linkCauses r [] 0 (following (suc r) s 0)) (Given n)) (omega arith) }
   where
+    none : r - 0 ≡ r
+    none = omega arith
+
     unmarked : (k u : ℕ) → k < 4 → contains (getD (0 ∷ 0 ∷ 0 ∷ 0 ∷ []) k 0) u ≡ false
     unmarked zero u h = contains-empty u
     unmarked (suc zero) u h = contains-empty u
@@ -176,56 +175,62 @@ mark-set w k on room pos j p was = go (ℕ-discrete j k) (ℕ-discrete (wordOf j
         ap (λ (y : ℕ). contains y (bitOf j)) (getD-set-other (w .marks) (wordOf k) (wordOf j) x 0 m) ∙ was ∙ sym (in-last-other j k on n)
 
 module _ {s : List ℕ} {r : ℕ} {w : Walk} (g : Walked s r w) where
-  pub ended : nextOf s (w .at) ≡ 0 → Given (w .steps) ≡ counted s r
-  unfolding andThen
+  pub ended : nextOf s (w .at) ≡ 0 → Given (w .steps) ≡ chainRead s r
+  unfolding linkCauses
   ended e =
-      ap Given (g .counted)
-      ∙ ap (λ a. andThen a (λ on. Given (length on))) (sym (walk-ends (r - length (g .on)) s r (g .on) (w .at) e) ∙ g .rest)
+      let many : w .steps ≡ length (g .on) + 0 = omega (arith, g .counted) in
+      ap Given many ∙ none-left _
+      ∙ ap (λ js. unless (linkCauses r (g .on) (w .at) js) (Given (length (g .on) + length js))) (sym (follow-ends (r - length (g .on)) s (w .at) e))
+      ∙ g .rest
 
-  looked : (z : nextOf s (w .at) ≡ 0 → ⊥) (n p : ℕ)
-      → Refused n p ≡ unless (cause (ltb r (nextOf s (w .at))) 4 (w .at) ∷ cause (isIn (nextOf s (w .at)) (g .on)) 5 (w .at) ∷ []) (walk (r - length (g .on)) s r (g .on ++ (nextOf s (w .at) ∷ [])) (nextOf s (w .at)))
-      → Refused n p ≡ counted s r
-  unfolding andThen
-  looked z n p e = ap (λ a. andThen a (λ on. Given (length on))) (e ∙ walk-looks (r - length (g .on)) s r (g .on) (w .at) z ∙ g .rest)
+  module _ (z : nextOf s (w .at) ≡ 0 → ⊥) where
+    -- the causes of the next link, and those of the links after it
+    looked : unless (cause (ltb r (nextOf s (w .at))) 4 (w .at) ∷ cause (isIn (nextOf s (w .at)) (g .on)) 5 (w .at) ∷ linkCauses r (g .on ++ (nextOf s (w .at) ∷ [])) (nextOf s (w .at)) (following (r - length (g .on)) s (nextOf s (w .at)))) (Given (length (g .on) + suc (length (following (r - length (g .on)) s (nextOf s (w .at)))))) ≡ chainRead s r
+    unfolding linkCauses
+    looked =
+        ap (λ js. unless (linkCauses r (g .on) (w .at) js) (Given (length (g .on) + length js))) (sym (follow-on (r - length (g .on)) s (w .at) z))
+        ∙ g .rest
 
-  pub led-out : (nextOf s (w .at) ≡ 0 → ⊥) → r < nextOf s (w .at) → Refused 4 (w .at) ≡ counted s r
-  led-out z h = looked z 4 (w .at) (refused-by _ _ _ (lt-ltb r (nextOf s (w .at)) h))
+    pub led-out : r < nextOf s (w .at) → Refused 4 (w .at) ≡ chainRead s r
+    led-out h = refused-by _ _ _ (lt-ltb r (nextOf s (w .at)) h) ∙ looked
 
-  module _ (lim : r ≤ recordLimit) (z : nextOf s (w .at) ≡ 0 → ⊥) (h : nextOf s (w .at) ≤ r) where
-    pub met-again : isMet w (nextOf s (w .at)) ≡ true → Refused 5 (w .at) ≡ counted s r
-    met-again m =
-        looked z 5 (w .at)
-        (passed-by _ _ _ (le-ltb r (nextOf s (w .at)) h) (refused-by _ _ _ (sym (g .marked (nextOf s (w .at)) (omega arith) (omega arith)) ∙ m)))
+    module _ (lim : r ≤ recordLimit) (h : nextOf s (w .at) ≤ r) where
+      pub met-again : isMet w (nextOf s (w .at)) ≡ true → Refused 5 (w .at) ≡ chainRead s r
+      met-again m =
+          passed-by _ _ _ (le-ltb r (nextOf s (w .at)) h) (refused-by _ _ _ (sym (g .marked (nextOf s (w .at)) (omega arith) (omega arith)) ∙ m))
+          ∙ looked
 
-    module _ (m : isMet w (nextOf s (w .at)) ≡ false) where
-      new : isIn (nextOf s (w .at)) (g .on) ≡ false
-      new = sym (g .marked (nextOf s (w .at)) (omega arith) (omega arith)) ∙ m
+      module _ (m : isMet w (nextOf s (w .at)) ≡ false) where
+        new : isIn (nextOf s (w .at)) (g .on) ≡ false
+        new = sym (g .marked (nextOf s (w .at)) (omega arith) (omega arith)) ∙ m
 
-      pub one-more : Met r (g .on ++ (nextOf s (w .at) ∷ []))
-      one-more = met-more (nextOf s (w .at)) (omega arith) h new (g .met)
+        one-more : Met r (g .on ++ (nextOf s (w .at) ∷ []))
+        one-more = met-more (nextOf s (w .at)) (omega arith) h new (g .met)
 
-      pub room : w .steps < r
-      room = omega (arith, met-room one-more, length-append (g .on) (nextOf s (w .at) ∷ []), g .counted)
+        pub room : w .steps < r
+        room = omega (arith, met-room one-more, length-append (g .on) (nextOf s (w .at) ∷ []), g .counted)
 
-      pub onward : Walked s r (onto w (nextOf s (w .at)))
-      unfolding onto
-      onward =
-          record {
-            on = g .on ++ (nextOf s (w .at) ∷ []);
-            met = one-more;
-            words = length-set (w .marks) (wordOf (nextOf s (w .at))) _ ∙ g .words;
-            marked = λ j p q. mark-set w (nextOf s (w .at)) (g .on) (omega (arith, g .words)) (omega arith) j p (g .marked j p q);
-            counted = omega (arith, length-append (g .on) (nextOf s (w .at) ∷ []), g .counted);
-            inside = h;
-            rest = gone-on;
-          }
-        where
-          less : r - length (g .on) ≡ suc (r - length (g .on ++ (nextOf s (w .at) ∷ [])))
-          less = omega (arith, met-room one-more, length-append (g .on) (nextOf s (w .at) ∷ []))
+        pub onward : Walked s r (onto w (nextOf s (w .at)))
+        unfolding onto
+        onward =
+            record {
+              on = g .on ++ (nextOf s (w .at) ∷ []);
+              met = one-more;
+              words = length-set (w .marks) (wordOf (nextOf s (w .at))) _ ∙ g .words;
+              marked = λ j p q. mark-set w (nextOf s (w .at)) (g .on) (omega (arith, g .words)) (omega arith) j p (g .marked j p q);
+              counted = omega (arith, length-append (g .on) (nextOf s (w .at) ∷ []), g .counted);
+              inside = h;
+              rest = gone-on }
+          where
+            less : suc (r - length (g .on ++ (nextOf s (w .at) ∷ []))) ≡ r - length (g .on)
+            less = omega (arith, met-room one-more, length-append (g .on) (nextOf s (w .at) ∷ []))
 
-          gone-on : walk (suc (r - length (g .on ++ (nextOf s (w .at) ∷ [])))) s r (g .on ++ (nextOf s (w .at) ∷ [])) (nextOf s (w .at)) ≡ chainOf s r
-          gone-on =
-              ap (λ (k : ℕ). walk k s r (g .on ++ (nextOf s (w .at) ∷ [])) (nextOf s (w .at))) (sym less)
-              ∙ passed-by _ _ _ (le-ltb r (nextOf s (w .at)) h) (passed-by _ _ _ new (none-left _))
-              ∙ walk-looks (r - length (g .on)) s r (g .on) (w .at) z
-              ∙ g .rest
+            more : (n : ℕ) → length (g .on ++ (nextOf s (w .at) ∷ [])) + n ≡ length (g .on) + suc n
+            more n = omega (arith, length-append (g .on) (nextOf s (w .at) ∷ []))
+
+            gone-on : said s r (g .on ++ (nextOf s (w .at) ∷ [])) (nextOf s (w .at)) (suc (r - length (g .on ++ (nextOf s (w .at) ∷ [])))) ≡ chainRead s r
+            gone-on =
+                ap (said s r (g .on ++ (nextOf s (w .at) ∷ [])) (nextOf s (w .at))) less
+                ∙ ap (λ (n : ℕ). unless (linkCauses r (g .on ++ (nextOf s (w .at) ∷ [])) (nextOf s (w .at)) (following (r - length (g .on)) s (nextOf s (w .at)))) (Given n)) (more _)
+                ∙ passed-by _ _ _ (le-ltb r (nextOf s (w .at)) h) (passed-by _ _ _ new refl)
+                ∙ looked

@@ -1,27 +1,27 @@
--- Laws on what the reader reads: a header that was given is sound, and the records of a chain that was given lie within the sheet.
+-- Laws on what the reader reads: a header that was given is sound, the records of a chain without a fault lie within the sheet, and the reader's
+-- stages decide one after the other.
 use mathlib.Core.Path.{_≡_, refl, sym, ap, ap₂, _∙_, subst}
 use mathlib.Core.Bool.{Bool, true, false, cond, not}
-use mathlib.Core.List.{List, [], _∷_, _++_, map, append-assoc, append-nil}
-use Prim.Native.Nat.{ℕ, zero, suc, _+_, _-_, _*_, _≤_, _<_}
+use mathlib.Core.List.{List, [], _∷_, _++_, map}
+use Prim.Native.Nat.{ℕ, zero, suc, _+_, _≤_, _<_}
 use native.Mathlib.Omega.{arith}
-use lib.Dec.{ltb, eqb}
-use lib.ListN.{length, length-map}
+use lib.Dec.{eqb}
+use lib.ListN.{length, length-map, length-append}
 use borrow.Author.Tests.{ltb-false, eqb-false, eqb-true, not-false}
 use Rattle.units.specs.Sets.{hasUnitFrom}
 use Rattle.sheet.specs.declared.Header.{Header}
-use Rattle.sheet.specs.declared.Step.{Step}
-use Rattle.sheet.specs.Answer.{Answer, Refused, Given, Cause, cause, unless, andThen}
-use Rattle.sheet.specs.Chain.{walk, chainOf, Inside, stepsFrom, isIn}
-use Rattle.sheet.specs.Format.{letters, lettersOf, headerSize, unitLimit, recordLimit, recordOffset, sheetLength, longest, unitsOf, recordsOf, reservedOf, startOf, header, nextOf, stepOf}
-use Rattle.sheet.specs.Reading.{same, headerOf, formCauses, headerCauses, openedOf, campaignOf, readingOf, stepsCauses, Campaign, Opened}
-use Rattle.sheet.specs.Told.{summary, summaryOf, summaryRead}
-use Rattle.sheet.proofs.Answers.{passed-first, none-left, given-same, unless-turned, then-given, unless-given}
+use Rattle.sheet.specs.Answer.{Answer, Refused, Given, Cause, unless}
+use Rattle.sheet.specs.Chain.{following, chainOf, linkCauses, Inside, stepsFrom}
+use Rattle.sheet.specs.Format.{unitLimit, recordLimit, sheetLength, unitsOf, recordsOf, header, nextOf, stepOf}
+use Rattle.sheet.specs.Reading.{formCauses, headerCauses, stepsCauses, recordsOn, stepsOf, readCauses, Campaign, campaignOf, readingOf}
+use Rattle.sheet.specs.Told.{headerRead, chainRead, summary, summaryRead, summaryOf}
+use Rattle.sheet.proofs.Answers.{none-left, unless-append, given-same, passed-first, all-passed, unless-given, refused-whatever}
 use Rattle.sheet.proofs.Chains.{Met, met-none, met-more, met-room}
 
 -- ---- the header
 
 pub record Sound (s : List ℕ) (h : Header) : Type 0 where
-  pub is-header : h ≡ header s
+  pub is-header : header s ≡ h
   pub some-units : 0 < h .units
   pub few-units : h .units ≤ unitLimit
   pub few-records : h .records ≤ recordLimit
@@ -32,14 +32,13 @@ positive : (n : ℕ) → (n ≡ 0 → ⊥) → 0 < n
 positive zero h = absurd (h refl)
 positive (suc n) h = omega arith
 
-pub header-sound : {s : List ℕ} {h : Header} → headerOf s ≡ Given h → Sound s h
-unfolding headerOf
-header-sound {s} {h} e =
+pub header-sound : (s : List ℕ) {h : Header} → headerRead s ≡ Given h → Sound s h
+header-sound s {h} e =
     let form-1 = passed-first _ _ _ e in
     let form-2 = passed-first _ _ _ (form-1 .1) in
     let form-3 = passed-first _ _ _ (form-2 .1) in
     let form-4 = passed-first _ _ _ (form-3 .1) in
-    let no-unit = passed-first _ _ _ (none-left _ ∙ form-4 .1) in
+    let no-unit = passed-first _ _ _ (form-4 .1) in
     let units = passed-first _ _ _ (no-unit .1) in
     let records = passed-first _ _ _ (units .1) in
     let zeros = passed-first _ _ _ (records .1) in
@@ -56,133 +55,118 @@ header-sound {s} {h} e =
 
 -- ---- the chain
 
--- the records on follow one another from a holder on, each between 1 and r
-pub Linked : List ℕ → ℕ → ℕ → List ℕ → Type 0
-Linked s r holder [] = Unit {0}
-Linked s r holder (j ∷ js) = (nextOf s holder ≡ j) × ((j ≤ r) × Linked s r j js)
-
--- a chain that was given is what had been met, and records that follow; all are distinct
-pub record Whole (s : List ℕ) (r : ℕ) (on : List ℕ) (holder : ℕ) (all : List ℕ) : Type 0 where
-  pub more : List ℕ
-  pub joined : all ≡ on ++ more
-  pub linked : Linked s r holder more
-  pub met : Met r all
-
-pub walk-whole : (k : ℕ) (s : List ℕ) (r : ℕ) (on : List ℕ) (holder : ℕ) (all : List ℕ) → Met r on → walk k s r on holder ≡ Given all → Whole s r on holder all
-unfolding walk Linked
-walk-whole zero s r on holder all m e =
-    record { more = []; joined = sym (given-same e) ∙ sym (append-nil on); linked = tt; met = subst (Met r) (given-same e) m }
-walk-whole (suc k) s r on holder all m e =
-    go (walk-whole k s r (on ++ (nextOf s holder ∷ [])) (nextOf s holder) all) (eqb (nextOf s holder) 0) refl e
+-- the steps of the records that follow are those of the records one after the other
+pub following-steps : (k : ℕ) (s : List ℕ) (holder : ℕ) → map (stepOf s) (following k s holder) ≡ stepsFrom s holder (length (following k s holder))
+unfolding following stepsFrom
+following-steps zero s holder = refl
+following-steps (suc k) s holder = go (eqb (nextOf s holder) 0) (following-steps k s (nextOf s holder))
   where
-    next : ℕ
-    next = nextOf s holder
+    rest : List ℕ
+    rest = following k s (nextOf s holder)
 
-    go : (Met r (on ++ (next ∷ [])) → walk k s r (on ++ (next ∷ [])) next ≡ Given all → Whole s r (on ++ (next ∷ [])) next all)
-        → (t : Bool) → eqb next 0 ≡ t
-        → cond t (Given on) (unless (cause (ltb r next) 4 holder ∷ cause (isIn next on) 5 holder ∷ []) (walk k s r (on ++ (next ∷ [])) next)) ≡ Given all
-        → Whole s r on holder all
-    go ih true q f =
-        record { more = []; joined = sym (given-same f) ∙ sym (append-nil on); linked = tt; met = subst (Met r) (given-same f) m }
-    go ih false q f =
-        let a = passed-first _ _ _ f in
-        let b = passed-first _ _ _ (a .1) in
-        let fits = ltb-false r next (a .0) in
-        let rest = ih (met-more next (positive next (eqb-false next 0 q)) fits (b .0) m) (none-left _ ∙ b .1) in
-        record {
-          more = next ∷ rest .more;
-          joined = rest .joined ∙ append-assoc on (next ∷ []) (rest .more);
-          linked = (refl, (fits, rest .linked));
-          met = rest .met }
+    go : (t : Bool) → map (stepOf s) rest ≡ stepsFrom s (nextOf s holder) (length rest)
+        → map (stepOf s) (cond t [] (nextOf s holder ∷ rest)) ≡ stepsFrom s holder (length (cond t [] (nextOf s holder ∷ rest)))
+    go true e = refl
+    go false e = ap (λ xs. stepOf s (nextOf s holder) ∷ xs) e
 
-module _ (s : List ℕ) (r : ℕ) (whole : length s ≡ sheetLength r) where
-  -- a chain that was given lies within the sheet, and its steps are those of the records that follow the header
-  pub linked-inside : (holder : ℕ) (on : List ℕ) → holder ≤ r → Linked s r holder on → Inside s holder (length on)
-  unfolding Linked Inside
-  linked-inside holder [] h l = tt
-  linked-inside holder (j ∷ on) h l =
-      (omega arith, (omega (arith, l .0, l .1 .0), subst (λ (k : ℕ). Inside s k (length on)) (sym (l .0)) (linked-inside j on (l .1 .0) (l .1 .1))))
+-- Records without a fault lie within a sheet of r records, and with those met before they are r at the most.
+pub record Kept (s : List ℕ) (r holder : ℕ) (on : List ℕ) (before : ℕ) : Type 0 where
+  pub inside : Inside s holder (length on)
+  pub few : before + length on ≤ r
 
-pub linked-steps : (s : List ℕ) (r holder : ℕ) (on : List ℕ) → Linked s r holder on → map (stepOf s) on ≡ stepsFrom s holder (length on)
-unfolding Linked stepsFrom
-linked-steps s r holder [] l = refl
-linked-steps s r holder (j ∷ on) l =
-    ap (λ k. stepOf s j ∷ k) (linked-steps s r j on (l .1 .1)) ∙ ap (λ (k : ℕ). stepOf s k ∷ stepsFrom s k (length on)) (sym (l .0))
+module _ {A : Type 0} (v : A) (s : List ℕ) (r : ℕ) (whole : length s ≡ sheetLength r) where
+  pub links-kept : (k : ℕ) (met : List ℕ) (holder : ℕ) {w : A} → Met r met → holder ≤ r
+      → unless (linkCauses r met holder (following k s holder)) (Given v) ≡ Given w → Kept s r holder (following k s holder) (length met)
+  unfolding following linkCauses Inside
+  links-kept zero met holder m h e = record { inside = tt; few = omega (arith, met-room m) }
+  links-kept (suc k) met holder {w} m h e =
+      go (λ n f g. links-kept k (met ++ (nextOf s holder ∷ [])) (nextOf s holder) {w = w} n f g) (eqb (nextOf s holder) 0) refl e
+    where
+      next : ℕ
+      next = nextOf s holder
 
--- the records on the chain of a sound sheet
-pub record Chained (s : List ℕ) (h : Header) (on : List ℕ) : Type 0 where
-  pub inside : Inside s 0 (length on)
-  pub steps : map (stepOf s) on ≡ stepsFrom s 0 (length on)
-  pub few : length on ≤ h .records
+      rest : List ℕ
+      rest = following k s next
 
-pub chain-sound : {s : List ℕ} {h : Header} {on : List ℕ} → Sound s h → chainOf s (h .records) ≡ Given on → Chained s h on
+      go : (Met r (met ++ (next ∷ [])) → next ≤ r → unless (linkCauses r (met ++ (next ∷ [])) next rest) (Given v) ≡ Given w → Kept s r next rest (length (met ++ (next ∷ []))))
+          → (t : Bool) → eqb next 0 ≡ t → unless (linkCauses r met holder (cond t [] (next ∷ rest))) (Given v) ≡ Given w
+          → Kept s r holder (cond t [] (next ∷ rest)) (length met)
+      go ih true q f = record { inside = tt; few = omega (arith, met-room m) }
+      go ih false q f =
+          let a = passed-first _ _ _ f in
+          let b = passed-first _ _ _ (a .1) in
+          let fits = ltb-false r next (a .0) in
+          let more = ih (met-more next (positive next (eqb-false next 0 q)) fits (b .0) m) fits (b .1) in
+          record {
+            inside = (omega arith, (omega arith, more .inside));
+            few = omega (arith, more .few, length-append met (next ∷ [])) }
+
+-- the chain of a sound sheet, where its links have no fault
+pub chain-kept : {A : Type 0} (v : A) (s : List ℕ) {h : Header} {w : A} → Sound s h
+    → unless (linkCauses (h .records) [] 0 (chainOf s (h .records))) (Given v) ≡ Given w → Kept s (h .records) 0 (chainOf s (h .records)) 0
 unfolding chainOf
-chain-sound {s} {h} {on} g e =
-    let w = walk-whole (suc (h .records)) s (h .records) [] 0 on (met-none (h .records)) e in
-    let l : Linked s (h .records) 0 on = subst (Linked s (h .records) 0) (sym (w .joined)) (w .linked) in
-    record {
-      inside = linked-inside s (h .records) (g .whole) 0 on (omega arith) l;
-      steps = linked-steps s (h .records) 0 on l;
-      few = met-room (w .met) }
+chain-kept v s {h} g e = links-kept v s (h .records) (g .whole) (suc (h .records)) [] 0 (met-none (h .records)) (omega arith) e
 
--- ---- the whole reader, by its stages
+-- ---- the reader's stages
 
-pub header-refuses : (s : List ℕ) {n p : ℕ} → headerOf s ≡ Refused n p → Refused n p ≡ summaryRead s
-unfolding readingOf openedOf andThen
-header-refuses s {n} {p} e = rw e
+-- the whole list of causes, header first, then links, then steps
+readCauses-staged : {A : Type 0} (s : List ℕ) (a : Answer A)
+    → unless (readCauses s) a ≡ unless (formCauses s ++ headerCauses s) (unless (linkCauses (recordsOf s) [] 0 (recordsOn s)) (unless (stepsCauses (unitsOf s) 1 (stepsOf s)) a))
+unfolding readCauses
+readCauses-staged s a =
+    unless-append (formCauses s ++ headerCauses s ++ linkCauses (recordsOf s) [] 0 (recordsOn s)) (stepsCauses (unitsOf s) 1 (stepsOf s)) a
+    ∙ unless-append (formCauses s ++ headerCauses s) (linkCauses (recordsOf s) [] 0 (recordsOn s)) (unless (stepsCauses (unitsOf s) 1 (stepsOf s)) a)
 
-module _ (s : List ℕ) {h : Header} (e : headerOf s ≡ Given h) where
-  pub chain-refuses : {n p : ℕ} → chainOf s (h .records) ≡ Refused n p → Refused n p ≡ summaryRead s
-  unfolding readingOf openedOf andThen
-  chain-refuses {n} {p} f = rw (e, f)
+pub header-refuses : (s : List ℕ) {n p : ℕ} → headerRead s ≡ Refused n p → Refused n p ≡ summaryRead s
+header-refuses s {n} {p} e =
+    refused-whatever (formCauses s ++ headerCauses s) (header s) (sym e) _ ∙ sym (readCauses-staged s (Given (summaryOf (campaignOf s))))
 
-  pub steps-decide : {on : List ℕ} → chainOf s (h .records) ≡ Given on
-      → unless (stepsCauses (h .units) 1 (stepsFrom s 0 (length on))) (Given (summary h (length on))) ≡ summaryRead s
-  unfolding readingOf openedOf andThen
-  steps-decide {on} f =
-      rw (e, f)
-      (ap₂ (λ xs n. unless (stepsCauses (h .units) 1 xs) (Given (summary h n))) (sym (chain-sound (header-sound e) f .steps)) (sym (length-map on (stepOf s)))
-      ∙ sym (unless-turned summaryOf (stepsCauses (h .units) 1 (map (stepOf s) on)) (campaignOf s (record { header = h; chain = on }))))
+module _ (s : List ℕ) {h : Header} (e : headerRead s ≡ Given h) where
+  is-header : header s ≡ h
+  is-header = header-sound s e .is-header
+
+  -- past the header, the links and the steps decide
+  header-passes : unless (linkCauses (h .records) [] 0 (chainOf s (h .records))) (unless (stepsCauses (h .units) 1 (map (stepOf s) (chainOf s (h .records)))) (Given (summaryOf (campaignOf s)))) ≡ summaryRead s
+  header-passes =
+      ap (λ (x : Header). unless (linkCauses (x .records) [] 0 (chainOf s (x .records))) (unless (stepsCauses (x .units) 1 (map (stepOf s) (chainOf s (x .records)))) (Given (summaryOf (campaignOf s))))) (sym is-header)
+      ∙ sym (all-passed (formCauses s ++ headerCauses s) _ e _)
+      ∙ sym (readCauses-staged s (Given (summaryOf (campaignOf s))))
+
+  pub chain-refuses : {n p : ℕ} → chainRead s (h .records) ≡ Refused n p → Refused n p ≡ summaryRead s
+  chain-refuses f = refused-whatever (linkCauses (h .records) [] 0 (chainOf s (h .records))) _ (sym f) _ ∙ header-passes
+
+  pub chain-counts : {n : ℕ} → chainRead s (h .records) ≡ Given n → length (chainOf s (h .records)) ≡ n
+  chain-counts f = given-same (unless-given (linkCauses (h .records) [] 0 (chainOf s (h .records))) _ f)
+
+  pub steps-decide : {n : ℕ} → chainRead s (h .records) ≡ Given n
+      → unless (stepsCauses (h .units) 1 (stepsFrom s 0 n)) (Given (summary h n)) ≡ summaryRead s
+  unfolding chainOf campaignOf
+  steps-decide {n} f =
+      ap₂ (λ xs x. unless (stepsCauses (h .units) 1 xs) (Given x))
+        (ap (stepsFrom s 0) (sym (chain-counts f)) ∙ sym (following-steps (suc (h .records)) s 0))
+        (ap₂ (λ (x : Header) (m : ℕ). summary x m) (sym is-header) (sym (chain-counts f) ∙ sym (length-map (chainOf s (h .records)) (stepOf s)) ∙ ap (λ (x : Header). length (map (stepOf s) (chainOf s (x .records)))) (sym is-header)))
+      ∙ sym (all-passed (linkCauses (h .records) [] 0 (chainOf s (h .records))) _ f _)
+      ∙ header-passes
 
 -- ---- a campaign that was read
 
-pub record Passed (s : List ℕ) (c : Campaign) : Type 0 where
-  pub header : Header
-  pub chain : List ℕ
-  pub header-given : headerOf s ≡ Given header
-  pub chain-given : chainOf s (header .records) ≡ Given chain
-  pub is-campaign : campaignOf s (record { header = header; chain = chain }) ≡ c
-  pub no-cause : unless (stepsCauses (header .units) 1 (map (stepOf s) chain)) (Given c) ≡ Given c
-
-pub reading-passed : (s : List ℕ) {c : Campaign} → readingOf s ≡ Given c → Passed s c
-unfolding readingOf openedOf
-reading-passed s {c} e =
-    let o = then-given (openedOf s) (λ o. unless (stepsCauses (o .header .units) 1 (campaignOf s o .steps)) (Given (campaignOf s o))) c e in
-    let h = then-given (headerOf s) (λ h. andThen (chainOf s (h .records)) (λ on. Given (record { header = h; chain = on }))) (o .0) (o .1 .0) in
-    let on = then-given (chainOf s (h .0 .records)) (λ on. Given (record { header = h .0; chain = on })) (o .0) (h .1 .1) in
-    let same = given-same (on .1 .1) in
-    let is = unless-given (stepsCauses (o .0 .header .units) 1 (campaignOf s (o .0) .steps)) (campaignOf s (o .0)) c (o .1 .1) in
-    record {
-      header = h .0;
-      chain = on .0;
-      header-given = h .1 .0;
-      chain-given = on .1 .0;
-      is-campaign = ap (campaignOf s) same ∙ is;
-      no-cause = subst (λ x. unless (stepsCauses (x .header .units) 1 (map (stepOf s) (x .chain))) (Given c) ≡ Given c) (sym same) (subst (λ y. unless (stepsCauses (o .0 .header .units) 1 (campaignOf s (o .0) .steps)) (Given y) ≡ Given c) is (o .1 .1)) }
-
--- the steps of a campaign that was read are those of the records that follow the header, and those lie within the sheet
+-- its steps are those of the records that follow the header, and those lie within the sheet
 pub record Walkable (s : List ℕ) (c : Campaign) : Type 0 where
   pub inside : Inside s 0 (length (c .steps))
   pub steps : c .steps ≡ stepsFrom s 0 (length (c .steps))
   pub few : length (c .steps) ≤ recordLimit
 
-pub passed-walkable : (s : List ℕ) {c : Campaign} → Passed s c → Walkable s c
-passed-walkable s {c} p =
-    let sound = header-sound (p .header-given) in
-    let chain = chain-sound sound (p .chain-given) in
-    let many = length-map (p .chain) (stepOf s) in
-    subst (Walkable s) (p .is-campaign)
+pub reading-walkable : (s : List ℕ) {c : Campaign} → readingOf s ≡ Given c → Walkable s c
+unfolding campaignOf chainOf
+reading-walkable s {c} e =
+    let staged = sym (readCauses-staged s (Given (campaignOf s))) ∙ e in
+    let sound = header-sound s (all-passed (formCauses s ++ headerCauses s) _ staged (Given (header s))) in
+    let past = unless-given (formCauses s ++ headerCauses s) _ staged in
+    let links = all-passed (linkCauses (recordsOf s) [] 0 (recordsOn s)) _ past (Given s) in
+    let kept = chain-kept s s sound links in
+    let many = length-map (recordsOn s) (stepOf s) in
+    subst (Walkable s) (given-same (unless-given (readCauses s) (Given (campaignOf s)) e))
     (record {
-      inside = subst (Inside s 0) (sym many) (chain .inside);
-      steps = chain .steps ∙ ap (stepsFrom s 0) (sym many);
-      few = omega (arith, many, chain .few, sound .few-records) })
+      inside = subst (Inside s 0) (sym many) (kept .inside);
+      steps = following-steps (suc (recordsOf s)) s 0 ∙ ap (stepsFrom s 0) (sym many);
+      few = omega (arith, many, kept .few, sound .few-records) })

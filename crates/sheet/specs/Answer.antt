@@ -1,5 +1,6 @@
 -- Answers: a value, or one refusal with its number and place. Checks run in the order of a list of causes, and the first that holds is the refusal.
 use Prim.Native.Nat.{ℕ}
+use mathlib.Core.Path.{_≡_}
 use mathlib.Core.Bool.{Bool, true, false, cond}
 use mathlib.Core.List.{List, [], _∷_}
 
@@ -21,7 +22,7 @@ unfoldable pub unless : {A : Type 0} → List Cause → Answer A → Answer A
 unless [] a = a
 unless (c ∷ cs) a = cond (c .holds) (Refused (c .number) (c .place)) (unless cs a)
 
--- what is made of a value; a refusal stays
-unfoldable pub andThen : {A B : Type 0} → Answer A → (A → Answer B) → Answer B
-andThen (Refused n p) f = Refused n p
-andThen (Given a) f = f a
+-- the first cause of the list that holds has that number and that place
+pub data First : List Cause → ℕ → ℕ → Type 0 where
+  here : {c : Cause} {cs : List Cause} → c .holds ≡ true → First (c ∷ cs) (c .number) (c .place)
+  later : {c : Cause} {cs : List Cause} {n p : ℕ} → c .holds ≡ false → First cs n p → First (c ∷ cs) n p

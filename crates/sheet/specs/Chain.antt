@@ -1,34 +1,39 @@
--- The chain: the records from the first on, each naming the next. The walk looks at one link after the other and is refused at the first that
--- leads out of the sheet or back to a record already on the chain. Its count of links to go is large enough (`fuel-left` in proofs/Chains.antt);
--- nothing else looks at it.
+-- The chain: the records from the first on, each naming the next, and what can be wrong with its links.
 use Prim.Native.Nat.{ℕ, zero, suc, _+_, _≤_}
 use mathlib.Core.Bool.{Bool, true, false, cond, _||_}
 use mathlib.Core.List.{List, [], _∷_, _++_}
 use lib.Dec.{ltb, eqb}
 use lib.ListN.{length}
 use Rattle.sheet.specs.declared.Step.{Step}
-use Rattle.sheet.specs.Answer.{Answer, Given, cause, unless}
+use Rattle.sheet.specs.Answer.{Cause, cause}
 use Rattle.sheet.specs.Format.{nextOf, stepOf, recordOffset}
+
+-- the records that follow one another from `holder` (a record, or 0 for the header) on, until a link is 0, k of them at the most
+unfoldable pub following : ℕ → List ℕ → ℕ → List ℕ
+following zero s holder = []
+following (suc k) s holder =
+    let next = nextOf s holder in
+    let rest = following k s next in
+    cond (eqb next 0) [] (next ∷ rest)
+
+-- The chain of a sheet of r records. At the most one record more than there are is looked at: by then a link has led out of the sheet or back
+-- to a record already met (`chain-is-long-enough` in proofs/Chains.antt).
+unfoldable pub chainOf : List ℕ → ℕ → List ℕ
+chainOf s r = following (suc r) s 0
 
 -- the test that j is in the list
 unfoldable pub isIn : ℕ → List ℕ → Bool
 isIn j [] = false
 isIn j (k ∷ ks) = eqb j k || isIn j ks
 
--- The chain of a sheet s of r records, where the records `on` it have been met, in chain order, and `holder`, the last of them, or 0 for the
--- header, holds the number of the next one. 0 ends the chain. The first argument counts the links that may still be looked at.
-unfoldable pub walk : ℕ → List ℕ → ℕ → List ℕ → ℕ → Answer (List ℕ)
-walk zero s r on holder = Given on
-walk (suc k) s r on holder =
-    let next = nextOf s holder in
-    let rest = walk k s r (on ++ (next ∷ [])) next in
-    cond (eqb next 0) (Given on) (unless (cause (ltb r next) 4 holder ∷ cause (isIn next on) 5 holder ∷ []) rest)
+-- refusals 4 and 5 of each link to a record of the list: it leads out of the r records, or to one of those already met. The first link is held
+-- by `holder`, and each other by the record before it.
+unfoldable pub linkCauses : ℕ → List ℕ → ℕ → List ℕ → List Cause
+linkCauses r met holder [] = []
+linkCauses r met holder (j ∷ js) =
+    cause (ltb r j) 4 holder ∷ cause (isIn j met) 5 holder ∷ linkCauses r (met ++ (j ∷ [])) j js
 
--- the records on the chain of a sheet of r records, in chain order
-unfoldable pub chainOf : List ℕ → ℕ → Answer (List ℕ)
-chainOf s r = walk (suc r) s r [] 0
-
--- ---- the records that follow one
+-- ---- for the functions that go along the chain
 
 -- the steps of the n records after record j, or after the header where j is 0
 unfoldable pub stepsFrom : List ℕ → ℕ → ℕ → List Step

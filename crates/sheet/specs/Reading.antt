@@ -1,17 +1,16 @@
--- What a sheet says: for any list of bytes, either one refusal or the campaign. The causes stand in the order in which they are checked:
--- the header's, the chain's, and those of the steps from the first on.
-use Prim.Native.Nat.{ℕ, suc, _+_}
+-- What a sheet says: for any list of bytes, either one refusal or the campaign. `readCauses` lists every cause of refusals 1 to 7 in the order in
+-- which they are checked: the header's, those of the chain link by link, and those of the steps from the first on. The first that holds decides.
+use Prim.Native.Nat.{ℕ, _+_}
 use mathlib.Core.Bool.{Bool, true, false, not, _&&_}
 use mathlib.Core.List.{List, [], _∷_, _++_, map}
 use lib.Dec.{ltb, eqb}
 use lib.ListN.{length}
 use Rattle.units.specs.Limits.{hasFeasible}
 use Rattle.units.specs.Sets.{hasUnitFrom}
-use Rattle.sheet.specs.declared.Header.{Header}
 use Rattle.sheet.specs.declared.Step.{Step}
-use Rattle.sheet.specs.Answer.{Answer, Given, Cause, cause, unless, andThen}
-use Rattle.sheet.specs.Chain.{chainOf}
-use Rattle.sheet.specs.Format.{letters, edition, headerSize, unitLimit, recordLimit, sheetLength, longest, lettersOf, editionOf, unitsOf, recordsOf, reservedOf, startOf, header, stepOf}
+use Rattle.sheet.specs.Answer.{Answer, Given, Cause, cause, unless}
+use Rattle.sheet.specs.Chain.{chainOf, linkCauses}
+use Rattle.sheet.specs.Format.{letters, edition, headerSize, unitLimit, recordLimit, sheetLength, longest, lettersOf, editionOf, unitsOf, recordsOf, boundOf, reservedOf, startOf, stepOf}
 
 -- the test that two lists of bytes are equal
 unfoldable pub same : List ℕ → List ℕ → Bool
@@ -40,10 +39,6 @@ headerCauses s =
     ∷ cause (not (eqb (length s) (sheetLength (recordsOf s)))) 3 24
     ∷ []
 
--- the header, past refusals 1 to 3
-unfoldable pub headerOf : List ℕ → Answer Header
-headerOf s = unless (formCauses s) (unless (headerCauses s) (Given (header s)))
-
 -- refusals 6 and 7 of the step number i: the upper set has a unit from d up; no set is feasible
 abbrev pub stepCauses : ℕ → ℕ → Step → List Cause
 stepCauses d i x =
@@ -56,6 +51,23 @@ unfoldable pub stepsCauses : ℕ → ℕ → List Step → List Cause
 stepsCauses d i [] = []
 stepsCauses d i (x ∷ xs) = stepCauses d i x ++ stepsCauses d (i + 1) xs
 
+-- ---- the whole sheet
+
+-- the records on the chain, and the steps that they hold
+abbrev pub recordsOn : List ℕ → List ℕ
+recordsOn s = chainOf s (recordsOf s)
+
+abbrev pub stepsOf : List ℕ → List Step
+stepsOf s = map (stepOf s) (recordsOn s)
+
+-- refusals 1 to 5: the header's and the chain's
+abbrev pub openCauses : List ℕ → List Cause
+openCauses s = formCauses s ++ headerCauses s ++ linkCauses (recordsOf s) [] 0 (recordsOn s)
+
+-- refusals 1 to 7. Where none applies, the sheet passes the reader, in docs/FORMAT.md.
+unfoldable pub readCauses : List ℕ → List Cause
+readCauses s = openCauses s ++ stepsCauses (unitsOf s) 1 (stepsOf s)
+
 -- what a sheet says: its units, the bound on switches, the start set and the steps in chain order
 pub record Campaign : Type 0 where
   pub units : ℕ
@@ -63,26 +75,9 @@ pub record Campaign : Type 0 where
   pub start : ℕ
   pub steps : List Step
 
--- the header and the records on the chain, past refusals 1 to 5
-pub record Opened : Type 0 where
-  pub header : Header
-  pub chain : List ℕ
+unfoldable pub campaignOf : List ℕ → Campaign
+campaignOf s = record { units = unitsOf s; bound = boundOf s; start = startOf s; steps = stepsOf s }
 
-unfoldable pub openedOf : List ℕ → Answer Opened
-openedOf s = andThen (headerOf s) (λ h. andThen (chainOf s (h .records)) (λ on. Given (record { header = h; chain = on })))
-
--- the campaign of an opened sheet
-abbrev pub campaignOf : List ℕ → Opened → Campaign
-campaignOf s o =
-    record {
-      units = o .header .units;
-      bound = o .header .bound;
-      start = o .header .start;
-      steps = map (stepOf s) (o .chain);
-    }
-
--- what a sheet says, past refusals 1 to 7: it passes the reader, in docs/FORMAT.md
-unfoldable pub readingOf : List ℕ → Answer Campaign
-readingOf s =
-    andThen (openedOf s)
-    (λ o. unless (stepsCauses (o .header .units) 1 (campaignOf s o .steps)) (Given (campaignOf s o)))
+-- one refusal of 1 to 7, or the campaign
+abbrev pub readingOf : List ℕ → Answer Campaign
+readingOf s = unless (readCauses s) (Given (campaignOf s))

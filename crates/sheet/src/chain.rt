@@ -5,10 +5,8 @@ use super::record::follow;
 ghost use mathlib.Core.Path.{_≡_};
 ghost use Prim.Native.Nat.{_≤_, _<_};
 ghost use lib.ListN.{length};
-ghost use Rattle.sheet.specs.Answer.{Given, andThen};
-ghost use Rattle.sheet.specs.Chain.{chainOf};
 ghost use Rattle.sheet.specs.Format.{sheetLength, recordLimit};
-ghost use Rattle.sheet.specs.Told.{chainTold};
+ghost use Rattle.sheet.specs.Told.{chainTold, chainRead};
 ghost use Rattle.sheet.specs.Walking.{isMet, onto};
 
 // How far a walk has come: a mark for each record that it has met, one bit a record, the record that it stands at (0 for the header),
@@ -54,7 +52,7 @@ impl Walk {
 // How many records are on the chain of a sheet that has `records` records, or the refusal of the first link that leads astray.
 pub fn walk_chain(s: &[u8], records: usize) -> ChainAnswer
     requires { ⌜ (length (now s) ≡ sheetLength records) × (records ≤ recordLimit) ⌝ }
-    ensures { λ r. ⌜ chainTold r ≡ andThen (chainOf (now (s .entry)) records) (λ on. Given (length on)) ⌝ }
+    ensures { λ r. ⌜ chainTold r ≡ chainRead (now (s .entry)) records ⌝ }
 {
     let mut walk = Sheet::open_walk();
     'walk: loop {

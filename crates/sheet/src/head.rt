@@ -11,8 +11,8 @@ ghost use Prim.Native.Nat.{_≤_};
 ghost use lib.ListN.{length};
 ghost use Rattle.sheet.specs.Answer.{Given, unless};
 ghost use Rattle.sheet.specs.Format.{letters, lettersOf, headerSize, header};
-ghost use Rattle.sheet.specs.Reading.{same, headerOf, headerCauses};
-ghost use Rattle.sheet.specs.Told.{headerTold};
+ghost use Rattle.sheet.specs.Reading.{same, headerCauses};
+ghost use Rattle.sheet.specs.Told.{headerTold, headerRead};
 
 pub enum HeaderAnswer {
     Refused(Refusal),
@@ -91,7 +91,7 @@ fn read_numbers(s: &[u8]) -> HeaderAnswer
 
 // The numbers of the header, or the refusal that comes first.
 pub fn read_header(s: &[u8]) -> HeaderAnswer
-    ensures { λ r. ⌜ headerTold r ≡ headerOf (now (s .entry)) ⌝ }
+    ensures { λ r. ⌜ headerTold r ≡ headerRead (now (s .entry)) ⌝ }
 {
     if s.len() < Sheet::HEADER_SIZE {
         return HeaderAnswer::Refused(Refusal {

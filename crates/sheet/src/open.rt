@@ -6,12 +6,11 @@ use super::{Header, ReadAnswer};
 
 ghost use mathlib.Core.Path.{_≡_};
 ghost use Rattle.sheet.specs.Answer.{Given};
-ghost use Rattle.sheet.specs.Reading.{headerOf};
-ghost use Rattle.sheet.specs.Told.{readTold, summaryRead};
+ghost use Rattle.sheet.specs.Told.{headerRead, readTold, summaryRead};
 
 // What the records say of a sheet with that header: refusals 4 to 7, or the summary of the campaign.
 pub fn read_records(s: &[u8], h: Header) -> ReadAnswer
-    requires { ⌜ headerOf (now s) ≡ Given h ⌝ }
+    requires { ⌜ headerRead (now s) ≡ Given h ⌝ }
     ensures { λ r. ⌜ readTold r ≡ summaryRead (now (s .entry)) ⌝ }
 {
     match walk_chain(s, h.records as usize) {

@@ -42,20 +42,20 @@ has-met-requires : tie.Need-has-met-requires Inv-walk μ-walk
 has-met-requires c κs = omega arith
 
 step-onto-requires : tie.Need-step-onto-requires Inv-walk μ-walk
-step-onto-requires c κs = (omega arith, omega arith, omega (arith, room (c .before .before .before .before .before .walk .inv) (omega arith) (omega (arith, c .before .before .before .before .follow .ensures .0)) (omega (arith, c .before .before .before .before .follow .ensures .0)) (ap (isMet (c .before .before .before .before .before .walk .walk)) (sym (c .before .before .before .before .follow .ensures .0)) ∙ sym (c .before .has-met .ensures) ∙ c .if3 .left)))
+step-onto-requires c κs = (omega arith, omega arith, omega (arith, room (c .before .before .before .before .before .walk .inv) (omega (arith, c .before .before .before .before .follow .ensures .0)) (omega arith) (omega (arith, c .before .before .before .before .follow .ensures .0)) (ap (isMet (c .before .before .before .before .before .walk .walk)) (sym (c .before .before .before .before .follow .ensures .0)) ∙ sym (c .before .has-met .ensures) ∙ c .if3 .left)))
 
 walk-less : tie.Need-walk-less Inv-walk μ-walk
 unfolding onto
-walk-less c = omega (arith, room (c .before .before .before .before .before .before .walk .inv) (omega arith) (omega (arith, c .before .before .before .before .before .follow .ensures .0)) (omega (arith, c .before .before .before .before .before .follow .ensures .0)) (ap (isMet (c .before .before .before .before .before .before .walk .walk)) (sym (c .before .before .before .before .before .follow .ensures .0)) ∙ sym (c .before .before .has-met .ensures) ∙ c .before .if3 .left), ap (λ (w : Walk). w .steps) (c .step-onto .ensures))
+walk-less c = omega (arith, room (c .before .before .before .before .before .before .walk .inv) (omega (arith, c .before .before .before .before .before .follow .ensures .0)) (omega arith) (omega (arith, c .before .before .before .before .before .follow .ensures .0)) (ap (isMet (c .before .before .before .before .before .before .walk .walk)) (sym (c .before .before .before .before .before .follow .ensures .0)) ∙ sym (c .before .before .has-met .ensures) ∙ c .before .if3 .left), ap (λ (w : Walk). w .steps) (c .step-onto .ensures))
 
 walk-again : tie.Need-walk-again Inv-walk μ-walk
-walk-again c = rw (c .step-onto .ensures ∙ ap (onto (c .before .before .before .before .before .before .walk .walk)) (c .before .before .before .before .before .follow .ensures .0)) (onward (c .before .before .before .before .before .before .walk .inv) (omega arith) (omega (arith, c .before .before .before .before .before .follow .ensures .0)) (omega (arith, c .before .before .before .before .before .follow .ensures .0)) (ap (isMet (c .before .before .before .before .before .before .walk .walk)) (sym (c .before .before .before .before .before .follow .ensures .0)) ∙ sym (c .before .before .has-met .ensures) ∙ c .before .if3 .left))
+walk-again c = rw (c .step-onto .ensures ∙ ap (onto (c .before .before .before .before .before .before .walk .walk)) (c .before .before .before .before .before .follow .ensures .0)) (onward (c .before .before .before .before .before .before .walk .inv) (omega (arith, c .before .before .before .before .before .follow .ensures .0)) (omega arith) (omega (arith, c .before .before .before .before .before .follow .ensures .0)) (ap (isMet (c .before .before .before .before .before .before .walk .walk)) (sym (c .before .before .before .before .before .follow .ensures .0)) ∙ sym (c .before .before .has-met .ensures) ∙ c .before .if3 .left))
 
 cast-t11 : tie.Need-cast-t11 Inv-walk μ-walk
 cast-t11 c = omega (arith, c .before .before .before .before .before .before .walk .inv .inside)
 
 returns-3 : tie.Need-returns-3 Inv-walk μ-walk
-returns-3 c = met-again (c .before .before .before .before .before .before .walk .inv) (omega arith) (omega (arith, c .before .before .before .before .before .follow .ensures .0)) (omega (arith, c .before .before .before .before .before .follow .ensures .0)) (ap (isMet (c .before .before .before .before .before .before .walk .walk)) (sym (c .before .before .before .before .before .follow .ensures .0)) ∙ sym (c .before .before .has-met .ensures) ∙ c .before .if3 .taken)
+returns-3 c = met-again (c .before .before .before .before .before .before .walk .inv) (omega (arith, c .before .before .before .before .before .follow .ensures .0)) (omega arith) (omega (arith, c .before .before .before .before .before .follow .ensures .0)) (ap (isMet (c .before .before .before .before .before .before .walk .walk)) (sym (c .before .before .before .before .before .follow .ensures .0)) ∙ sym (c .before .before .has-met .ensures) ∙ c .before .if3 .taken)
 
 pub walk-chain-spec : {M : Type 1} → statement M
 walk-chain-spec =

@@ -7,19 +7,16 @@ use borrow.Author.Tests.{eq-eqb, ne-eqb, lt-ltb, le-ltb}
 use denote.Ref.{now}
 use lib.ListN.{length}
 use Rattle.sheet.specs.Format.{headerSize, longest, editionOf, edition}
-use Rattle.sheet.specs.Reading.{headerOf}
-use Rattle.sheet.proofs.Answers.{refused-by, passed-by, none-left}
+use Rattle.sheet.proofs.Answers.{refused-by, passed-by}
 use Rattle.sheet.proofs.head.read_header.Statement.{statement}
 use Rattle.sheet.proofs.head.read_header.Tie as tie
 
 returns : tie.Need-returns
-unfolding headerOf
 returns c =
     let s = now (c .before .before .args .s) in
     (refused-by _ _ _ (lt-ltb (length s) headerSize (omega arith)))
 
 returns-2 : tie.Need-returns-2
-unfolding headerOf
 returns-2 c =
     let s = now (c .before .before .before .args .s) in
     (passed-by _ _ _ (le-ltb (length s) headerSize (omega arith))
@@ -29,7 +26,6 @@ has-letters-requires : tie.Need-has-letters-requires
 has-letters-requires c κs = search needs
 
 returns-3 : tie.Need-returns-3
-unfolding headerOf
 returns-3 c =
     let s = now (c .before .before .before .before .before .args .s) in
     (passed-by _ _ _ (le-ltb (length s) headerSize (omega arith))
@@ -40,7 +36,6 @@ byte-at-requires : tie.Need-byte-at-requires
 byte-at-requires c κs = search needs
 
 returns-4 : tie.Need-returns-4
-unfolding headerOf
 returns-4 c =
     let s = now (c .before .before .before .before .before .before .before .args .s) in
     (passed-by _ _ _ (le-ltb (length s) headerSize (omega arith))
@@ -52,14 +47,13 @@ read-numbers-requires : tie.Need-read-numbers-requires
 read-numbers-requires c κs = search needs
 
 returns-5 : tie.Need-returns-5
-unfolding headerOf
 returns-5 c =
     let s = now (c .before .before .before .before .before .before .before .before .args .s) in
     (passed-by _ _ _ (le-ltb (length s) headerSize (omega arith))
     (passed-by _ _ _ (le-ltb longest (length s) (omega arith))
     (passed-by _ _ _ (ap not (sym (c .before .before .before .before .has-letters .ensures)) ∙ c .before .before .before .if3 .left)
     (passed-by _ _ _ (ap not (eq-eqb (editionOf s) edition (omega arith)))
-    (c .read-numbers .ensures ∙ none-left _)))))
+    (c .read-numbers .ensures)))))
 
 pub read-header-spec : {M : Type 1} → statement M
 read-header-spec =
