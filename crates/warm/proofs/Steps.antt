@@ -8,34 +8,51 @@ use lib.Dec.{ltb}
 use lib.ListN.{length, drop}
 use borrow.Author.Tests.{lt-ltb, le-ltb, ltb-false}
 use Rattle.sheet.specs.declared.Step.{Step}
-use Rattle.sheet.specs.Answer.{Answer, Refused, Given, cause, unless, andThen}
+use Rattle.sheet.specs.declared.Summary.{Summary}
+use Rattle.sheet.specs.Answer.{Answer, Refused, Given, unless}
 use Rattle.sheet.specs.Chain.{Inside, stepsFrom}
-use Rattle.sheet.specs.Reading.{Campaign, readingOf}
-use Rattle.sheet.proofs.Answers.{refused-by, passed-by, none-left, passed-first, given-same, then-given}
-use Rattle.sheet.proofs.Readings.{reading-passed, passed-walkable}
-use Rattle.warm.specs.Entries.{stepsAnswer, stepsReply, stepsWritten}
+use Rattle.sheet.specs.Reading.{stepsOf, readCauses, Campaign, campaignOf, readingOf}
+use Rattle.sheet.specs.Told.{summaryOf, summaryRead}
+use Rattle.sheet.proofs.Answers.{refused-by, passed-by, none-left, unless-append, passed-first, given-same, all-passed, unless-given, refused-whatever}
+use Rattle.sheet.proofs.Readings.{reading-walkable}
+use Rattle.warm.specs.Entries.{placesCauses, stepsRefusals, stepsAnswer, stepsReply, stepsWritten}
 
 module _ (s : List ℕ) (places : ℕ) where
-  pub answer-refused : {n p : ℕ} → readingOf s ≡ Refused n p → stepsAnswer s places ≡ Refused n p
-  unfolding stepsAnswer andThen
-  answer-refused {n} {p} e = rw e
+  staged : stepsAnswer s places ≡ unless (readCauses s) (unless (placesCauses s places) (Given (campaignOf s)))
+  unfolding stepsRefusals
+  staged = unless-append (readCauses s) (placesCauses s places) (Given (campaignOf s))
 
-  pub answer-short : {c : Campaign} → readingOf s ≡ Given c → places < length (c .steps) → stepsAnswer s places ≡ Refused 8 (length (c .steps))
-  unfolding stepsAnswer andThen
-  answer-short {c} e h = rw e (sym (refused-by _ _ _ (lt-ltb places (length (c .steps)) h)))
+  pub answer-refused : {n p : ℕ} → summaryRead s ≡ Refused n p → Refused n p ≡ stepsAnswer s places
+  answer-refused e = refused-whatever (readCauses s) (summaryOf (campaignOf s)) (sym e) _ ∙ sym staged
 
-  pub answer-given : {c : Campaign} → readingOf s ≡ Given c → length (c .steps) ≤ places → stepsAnswer s places ≡ Given c
-  unfolding stepsAnswer andThen
-  answer-given {c} e h = rw e (sym (passed-by _ _ _ (le-ltb places (length (c .steps)) h) (none-left _)))
+  module _ {x : Summary} (e : summaryRead s ≡ Given x) where
+    pub is-summary : summaryOf (campaignOf s) ≡ x
+    is-summary = given-same (unless-given (readCauses s) _ e)
+
+    -- past the reader, the number of places decides
+    places-decide : unless (placesCauses s places) (Given (campaignOf s)) ≡ stepsAnswer s places
+    places-decide = sym (all-passed (readCauses s) _ e _) ∙ sym staged
+
+    pub answer-short : places < x .steps → Refused 8 (x .steps) ≡ stepsAnswer s places
+    unfolding campaignOf
+    answer-short h =
+        let many = ap (λ (y : Summary). y .steps) is-summary in
+        ap (Refused 8) (sym many) ∙ refused-by _ _ _ (lt-ltb places (length (stepsOf s)) (omega arith)) ∙ places-decide
+
+    pub answer-given : x .steps ≤ places → Given (campaignOf s) ≡ stepsAnswer s places
+    unfolding campaignOf
+    answer-given h =
+        let many = ap (λ (y : Summary). y .steps) is-summary in
+        passed-by _ _ _ (le-ltb places (length (stepsOf s)) (omega arith)) (none-left _) ∙ places-decide
 
   -- a campaign that is the answer was read, and has a place for each step
   pub given-answer : {c : Campaign} → stepsAnswer s places ≡ Given c → (readingOf s ≡ Given c) × (length (c .steps) ≤ places)
-  unfolding stepsAnswer
+  unfolding campaignOf
   given-answer {c} e =
-      let r = then-given (readingOf s) (λ c. unless (cause (ltb places (length (c .steps))) 8 (length (c .steps)) ∷ []) (Given c)) c e in
-      let p = passed-first _ _ _ (r .1 .1) in
+      let f = sym staged ∙ e in
+      let p = passed-first _ _ _ (unless-given (readCauses s) _ f) in
       let same = given-same (none-left _ ∙ p .1) in
-      (r .1 .0 ∙ ap Given same, subst (λ (d : Campaign). length (d .steps) ≤ places) same (ltb-false places (length (r .0 .steps)) (p .0)))
+      (all-passed (readCauses s) _ f (Given (campaignOf s)) ∙ ap Given same, subst (λ (d : Campaign). length (d .steps) ≤ places) same (ltb-false places (length (stepsOf s)) (p .0)))
 
   -- what the reply asks to be filled lies within the sheet and within the list
   pub fill-asked : Inside s 0 (stepsReply (stepsAnswer s places) .steps) × (stepsReply (stepsAnswer s places) .steps ≤ places)
@@ -44,7 +61,7 @@ module _ (s : List ℕ) (places : ℕ) where
     where
       go : (a : Answer Campaign) → stepsAnswer s places ≡ a → Inside s 0 (stepsReply a .steps) × (stepsReply a .steps ≤ places)
       go (Refused n p) e = (tt, omega arith)
-      go (Given c) e = let r = given-answer e in (passed-walkable s (reading-passed s (r .0)) .inside, r .1)
+      go (Given c) e = let r = given-answer e in (reading-walkable s (r .0) .inside, r .1)
 
 -- the steps after the header, as many as the reply says, are what the list then holds
 pub filled : (s : List ℕ) (out : List Step)
@@ -55,4 +72,4 @@ filled s out = go (stepsAnswer s (length out)) refl
   where
     go : (a : Answer Campaign) → stepsAnswer s (length out) ≡ a → stepsFrom s 0 (stepsReply a .steps) ++ drop (stepsReply a .steps) out ≡ stepsWritten a out
     go (Refused n p) e = refl
-    go (Given c) e = ap (λ xs. xs ++ drop (length (c .steps)) out) (sym (passed-walkable s (reading-passed s (given-answer s (length out) e .0)) .steps))
+    go (Given c) e = ap (λ xs. xs ++ drop (length (c .steps)) out) (sym (reading-walkable s (given-answer s (length out) e .0) .steps))

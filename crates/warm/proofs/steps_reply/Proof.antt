@@ -1,16 +1,13 @@
 -- `warm::steps_reply` meets its contract.
 use mathlib.Core.Path.{_≡_, sym, ap, _∙_}
-use Prim.Native.Nat.{ℕ}
-use native.Mathlib.Omega.{arith}
 use borrow.Author.Needs.{needs}
 use denote.Ref.{now}
 use Rattle.sheet.specs.declared.Summary.{Summary}
-use Rattle.sheet.specs.Answer.{Refused, Given}
-use Rattle.sheet.specs.Reading.{Campaign, readingOf}
+use Rattle.sheet.specs.Answer.{Given}
+use Rattle.sheet.specs.Reading.{Campaign, campaignOf}
 use Rattle.sheet.specs.Told.{readTold, summaryOf}
-use Rattle.sheet.proofs.Answers.{turned-refused, turned-given}
 use Rattle.warm.specs.Entries.{stepsReply}
-use Rattle.warm.proofs.Steps.{answer-refused, answer-short, answer-given}
+use Rattle.warm.proofs.Steps.{is-summary, answer-refused, answer-short, answer-given}
 use Rattle.warm.proofs.steps_reply.Statement.{statement}
 use Rattle.warm.proofs.steps_reply.Tie as tie
 
@@ -18,7 +15,8 @@ use Rattle.warm.proofs.steps_reply.Tie as tie
 replied : (x : Summary) (c : Campaign) → summaryOf c ≡ x
     → record { refusal = 0; place = 0; units = x .units; steps = x .steps; bound = x .bound; reserved = 0; start = x .start } ≡ stepsReply (Given c)
 unfolding stepsReply
-replied x c e = λ i. record { refusal = 0; place = 0; units = sym e i .units; steps = sym e i .steps; bound = sym e i .bound; reserved = 0; start = sym e i .start }
+replied x c e =
+    λ i. record { refusal = 0; place = 0; units = sym e i .units; steps = sym e i .steps; bound = sym e i .bound; reserved = 0; start = sym e i .start }
 
 read-requires : tie.Need-read-requires
 read-requires c κs = search needs
@@ -40,26 +38,22 @@ steps-refused-requires-2 c κs = search needs
 
 returns : tie.Need-returns
 returns c =
-    let s = now (c .before .before .before .before .before .before .before .before .args .sheet) in
-    let places = c .before .before .before .before .before .before .before .before .args .places in
-    let read = turned-given summaryOf (readingOf s) (c .before .before .before .before .x2 .given .0 .0) (sym (ap readTold (c .before .before .before .before .x2 .given .1)) ∙ c .before .before .before .before .before .before .read .ensures) in
-    let many = ap (λ (x : Summary). x .steps) (read .1 .1) in
-    c .steps-refused2 .ensures ∙ ap (λ (n : ℕ). stepsReply (Refused 8 n)) (sym many)
-    ∙ ap stepsReply (sym (answer-short s places (read .1 .0) (omega arith)))
+    let a = c .before .before .before .before .before .before .before .before .args in
+    c .steps-refused2 .ensures
+    ∙ ap stepsReply (answer-short (now (a .sheet)) (a .places) (sym (c .before .before .before .before .before .before .read .ensures) ∙ ap readTold (c .before .before .before .before .x2 .given .1)) (c .before .if1 .taken))
 
 returns-2 : tie.Need-returns-2
 returns-2 c =
-    let s = now (c .before .before .before .before .before .before .args .sheet) in
+    let a = c .before .before .before .before .before .before .args in
     c .steps-refused .ensures
-    ∙ ap stepsReply (sym (answer-refused s (c .before .before .before .before .before .before .args .places) (turned-refused summaryOf (readingOf s) _ _ (sym (ap readTold (c .before .before .x .given .1)) ∙ c .before .before .before .before .read .ensures))))
+    ∙ ap stepsReply (answer-refused (now (a .sheet)) (a .places) (sym (c .before .before .before .before .read .ensures) ∙ ap readTold (c .before .before .x .given .1)))
 
 returns-3 : tie.Need-returns-3
 returns-3 c =
-    let s = now (c .before .before .before .before .before .before .before .args .sheet) in
-    let places = c .before .before .before .before .before .before .before .args .places in
-    let read = turned-given summaryOf (readingOf s) (c .before .before .before .x2 .given .0 .0) (sym (ap readTold (c .before .before .before .x2 .given .1)) ∙ c .before .before .before .before .before .read .ensures) in
-    let many = ap (λ (x : Summary). x .steps) (read .1 .1) in
-    replied (c .before .before .before .x2 .given .0 .0) (read .0) (read .1 .1) ∙ ap stepsReply (sym (answer-given s places (read .1 .0) (omega arith)))
+    let a = c .before .before .before .before .before .before .before .args in
+    let s = now (a .sheet) in
+    let read = sym (c .before .before .before .before .before .read .ensures) ∙ ap readTold (c .before .before .before .x2 .given .1) in
+    replied (c .before .before .before .x2 .given .0 .0) (campaignOf s) (is-summary s (a .places) read) ∙ ap stepsReply (answer-given s (a .places) read (c .if1 .left))
 
 pub steps-reply-spec : {M : Type 1} → statement M
 steps-reply-spec =
