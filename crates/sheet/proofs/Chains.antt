@@ -139,7 +139,8 @@ started s r =
       marked = λ j p q. unmarked (wordOf j) (bitOf j) (omega arith);
       counted = refl;
       inside = omega arith;
-      rest = ap (λ (k : ℕ). said s r [] 0 (suc k)) none ∙ ap (λ (n : ℕ). unless (linkCauses r [] 0 (following (suc r) s 0)) (Given n)) (omega arith) }
+      rest = ap (λ (k : ℕ). said s r [] 0 (suc k)) none ∙ ap (λ (n : ℕ). unless (linkCauses r [] 0 (following (suc r) s 0)) (Given n)) (omega arith);
+    }
   where
     none : r - 0 ≡ r
     none = omega arith
@@ -220,7 +221,8 @@ module _ {s : List ℕ} {r : ℕ} {w : Walk} (g : Walked s r w) where
               marked = λ j p q. mark-set w (nextOf s (w .at)) (g .on) (omega (arith, g .words)) (omega arith) j p (g .marked j p q);
               counted = omega (arith, length-append (g .on) (nextOf s (w .at) ∷ []), g .counted);
               inside = h;
-              rest = gone-on }
+              rest = gone-on;
+            }
           where
             less : suc (r - length (g .on ++ (nextOf s (w .at) ∷ []))) ≡ r - length (g .on)
             less = omega (arith, met-room one-more, length-append (g .on) (nextOf s (w .at) ∷ []))

@@ -51,7 +51,8 @@ header-sound s {h} e =
       few-units = ltb-false unitLimit (unitsOf s) (units .0);
       few-records = ltb-false recordLimit (recordsOf s) (records .0);
       own-start = start .0;
-      whole = eqb-true (length s) (sheetLength (recordsOf s)) (not-false _ (end .0)) })
+      whole = eqb-true (length s) (sheetLength (recordsOf s)) (not-false _ (end .0));
+    })
 
 -- ---- the chain
 
@@ -99,7 +100,8 @@ module _ {A : Type 0} (v : A) (s : List ℕ) (r : ℕ) (whole : length s ≡ she
           let more = ih (met-more next (positive next (eqb-false next 0 q)) fits (b .0) m) fits (b .1) in
           record {
             inside = (omega arith, (omega arith, more .inside));
-            few = omega (arith, more .few, length-append met (next ∷ [])) }
+            few = omega (arith, more .few, length-append met (next ∷ []));
+          }
 
 -- the chain of a sound sheet, where its links have no fault
 pub chain-kept : {A : Type 0} (v : A) (s : List ℕ) {h : Header} {w : A} → Sound s h
@@ -143,8 +145,8 @@ module _ (s : List ℕ) {h : Header} (e : headerRead s ≡ Given h) where
   unfolding chainOf campaignOf
   steps-decide {n} f =
       ap₂ (λ xs x. unless (stepsCauses (h .units) 1 xs) (Given x))
-        (ap (stepsFrom s 0) (sym (chain-counts f)) ∙ sym (following-steps (suc (h .records)) s 0))
-        (ap₂ (λ (x : Header) (m : ℕ). summary x m) (sym is-header) (sym (chain-counts f) ∙ sym (length-map (chainOf s (h .records)) (stepOf s)) ∙ ap (λ (x : Header). length (map (stepOf s) (chainOf s (x .records)))) (sym is-header)))
+      (ap (stepsFrom s 0) (sym (chain-counts f)) ∙ sym (following-steps (suc (h .records)) s 0))
+      (ap₂ (λ (x : Header) (m : ℕ). summary x m) (sym is-header) (sym (chain-counts f) ∙ sym (length-map (chainOf s (h .records)) (stepOf s)) ∙ ap (λ (x : Header). length (map (stepOf s) (chainOf s (x .records)))) (sym is-header)))
       ∙ sym (all-passed (linkCauses (h .records) [] 0 (chainOf s (h .records))) _ f _)
       ∙ header-passes
 
@@ -169,4 +171,5 @@ reading-walkable s {c} e =
     (record {
       inside = subst (Inside s 0) (sym many) (kept .inside);
       steps = following-steps (suc (recordsOf s)) s 0 ∙ ap (stepsFrom s 0) (sym many);
-      few = omega (arith, many, kept .few, sound .few-records) })
+      few = omega (arith, many, kept .few, sound .few-records);
+    })

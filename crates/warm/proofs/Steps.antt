@@ -66,7 +66,7 @@ module _ (s : List ℕ) (places : ℕ) where
 -- the steps after the header, as many as the reply says, are what the list then holds
 pub filled : (s : List ℕ) (out : List Step)
     → stepsFrom s 0 (stepsReply (stepsAnswer s (length out)) .steps) ++ drop (stepsReply (stepsAnswer s (length out)) .steps) out
-      ≡ stepsWritten (stepsAnswer s (length out)) out
+    ≡ stepsWritten (stepsAnswer s (length out)) out
 unfolding stepsReply stepsWritten stepsFrom
 filled s out = go (stepsAnswer s (length out)) refl
   where

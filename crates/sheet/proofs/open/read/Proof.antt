@@ -16,8 +16,8 @@ enum-known-x c = search needs
 enum-known-h : tie.Need-enum-known-h
 enum-known-h c = search needs
 
-read-records-requires : tie.Need-read-records-requires
-read-records-requires c κs = sym (c .before .before .before .read-header .ensures) ∙ ap headerTold (c .before .h .given .1)
+read-opened-requires : tie.Need-read-opened-requires
+read-opened-requires c κs = sym (c .before .before .before .read-header .ensures) ∙ ap headerTold (c .before .h .given .1)
 
 returns : tie.Need-returns
 returns c = header-refuses (now (c .before .before .before .before .before .args .bytes)) (sym (c .before .before .before .read-header .ensures) ∙ ap headerTold (c .before .x .given .1))
@@ -32,6 +32,6 @@ read-spec =
     read-header-requires
     enum-known-x
     enum-known-h
-    read-records-requires
+    read-opened-requires
     returns
     returns-2)
