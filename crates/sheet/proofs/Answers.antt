@@ -21,6 +21,15 @@ pub none-left : {A : Type 0} (a : Answer A) → a ≡ unless [] a
 unfolding unless
 none-left a = refl
 
+-- two answers with the same first cause are equal if they are where it does not hold
+pub past-first : {A : Type 0} (c : Cause) (cs ds : List Cause) (a b : Answer A) → (c .holds ≡ false → unless cs a ≡ unless ds b) → unless (c ∷ cs) a ≡ unless (c ∷ ds) b
+unfolding unless
+past-first c cs ds a b = go (c .holds)
+  where
+    go : (t : Bool) → (t ≡ false → unless cs a ≡ unless ds b) → cond t (Refused (c .number) (c .place)) (unless cs a) ≡ cond t (Refused (c .number) (c .place)) (unless ds b)
+    go true h = refl
+    go false h = h refl
+
 -- the causes of two lists, those of the first before those of the second
 pub unless-append : {A : Type 0} (cs ds : List Cause) (a : Answer A) → unless (cs ++ ds) a ≡ unless cs (unless ds a)
 unfolding unless

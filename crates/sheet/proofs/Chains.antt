@@ -8,13 +8,13 @@ use mathlib.Core.Logic.{_⊎_, inl, inr}
 use mathlib.Core.Bool.{Bool, true, false, cond, _||_}
 use mathlib.Core.List.{List, [], _∷_, _++_}
 use Prim.Native.Nat.{ℕ, zero, suc, _+_, _-_, _*_, _/_, _%_, _^_, _≤_, _<_}
-use native.Mathlib.Nat.{pow-suc}
+use native.Mathlib.Nat.{pow-suc, suc-add}
 use native.Mathlib.Decide.{ℕ-discrete, decLe}
 use native.Mathlib.Omega.{arith}
 use lib.Dec.{ltb, eqb}
 use lib.ListN.{length, length-append, length-set, getD, set}
 use lib.Seq.{getD-set-same, getD-set-other}
-use borrow.Author.Tests.{eq-eqb, ne-eqb, lt-ltb, le-ltb}
+use borrow.Author.Tests.{eq-eqb, ne-eqb, lt-ltb, le-ltb, ltb-false}
 use Rattle.units.specs.Sets.{bit, contains, insert, size}
 use Rattle.units.proofs.Sets.{bit-empty, bit-zero, bit-insert-other, contains-insert, contains-insert-other, contains-empty, outside, size-empty, size-insert, size-step, size-below, unit-below, below-pow, bit-cases}
 use Rattle.sheet.specs.declared.chain.Walk.{Walk}
@@ -23,7 +23,7 @@ use Rattle.sheet.specs.Chain.{isIn, following, chainOf, linkCauses}
 use Rattle.sheet.specs.Format.{nextOf, recordLimit}
 use Rattle.sheet.specs.Told.{chainRead}
 use Rattle.sheet.specs.Walking.{atHeader, isMet, onto, wordOf, bitOf}
-use Rattle.sheet.proofs.Answers.{refused-by, passed-by, none-left}
+use Rattle.sheet.proofs.Answers.{refused-by, passed-by, none-left, past-first}
 
 -- ---- members of a list
 
@@ -236,3 +236,39 @@ module _ {s : List ℕ} {r : ℕ} {w : Walk} (g : Walked s r w) where
                 ∙ ap (λ (n : ℕ). unless (linkCauses r (g .on ++ (nextOf s (w .at) ∷ [])) (nextOf s (w .at)) (following (r - length (g .on)) s (nextOf s (w .at)))) (Given n)) (more _)
                 ∙ passed-by _ _ _ (le-ltb r (nextOf s (w .at)) h) (passed-by _ _ _ new refl)
                 ∙ looked
+
+-- ---- the chain is long enough
+
+-- Once as many records may follow as there are places for distinct ones, more change nothing: `answer` is whatever is made of the chain.
+long-enough : {A : Type 0} (answer : List ℕ → Answer A) (s : List ℕ) (r k more : ℕ) (met : List ℕ) (holder : ℕ) → Met r met → r < length met + k
+    → unless (linkCauses r met holder (following (k + more) s holder)) (answer (following (k + more) s holder))
+    ≡ unless (linkCauses r met holder (following k s holder)) (answer (following k s holder))
+unfolding linkCauses
+long-enough {A} answer s r zero more met holder m h = absurd (omega (arith, met-room m))
+long-enough {A} answer s r (suc k) more met holder m h =
+    ap (λ (n : ℕ). unless (linkCauses r met holder (following n s holder)) (answer (following n s holder))) (suc-add k more)
+    ∙ go (ℕ-discrete (nextOf s holder) 0) (λ m′ h′. long-enough (λ js. answer (nextOf s holder ∷ js)) s r k more (met ++ (nextOf s holder ∷ [])) (nextOf s holder) m′ h′)
+  where
+    next : ℕ
+    next = nextOf s holder
+
+    decided : List ℕ → Answer A
+    decided js = unless (linkCauses r met holder js) (answer js)
+
+    further : List ℕ → Answer A
+    further js = unless (linkCauses r (met ++ (next ∷ [])) next js) (answer (next ∷ js))
+
+    go : Dec (next ≡ 0) → (Met r (met ++ (next ∷ [])) → r < length (met ++ (next ∷ [])) + k → further (following (k + more) s next) ≡ further (following k s next))
+        → decided (following (suc (k + more)) s holder) ≡ decided (following (suc k) s holder)
+    go (yes e) ih = ap decided (follow-ends (k + more) s holder e ∙ sym (follow-ends k s holder e))
+    go (no n) ih =
+        ap decided (follow-on (k + more) s holder n)
+        ∙ past-first _ _ _ _ _ (λ in-range. past-first _ _ _ _ _ (λ new.
+        ih (met-more next (omega arith) (ltb-false r next in-range) new m) (omega (arith, length-append met (next ∷ [])))))
+        ∙ ap decided (sym (follow-on k s holder n))
+
+-- so looking at more links than the definition does gives the same refusal or the same chain
+pub chain-is-long-enough : (s : List ℕ) (r more : ℕ)
+    → unless (linkCauses r [] 0 (following (suc r + more) s 0)) (Given (following (suc r + more) s 0)) ≡ unless (linkCauses r [] 0 (chainOf s r)) (Given (chainOf s r))
+unfolding chainOf
+chain-is-long-enough s r more = long-enough Given s r (suc r) more [] 0 (met-none r) (omega arith)

@@ -1,5 +1,6 @@
 -- `Answers` has the laws on choices between a refusal and a value, `Chains` those on the walk, `Letters` one on the letters that a sheet begins with, `Records` those
 -- on the records and their numbers, and `Searches` those on the search for a faulty step.
+pub mod Agreements
 pub mod Answers
 pub mod Chains
 mod Letters
