@@ -1,2 +1,3 @@
--- `Steps` has the laws on the answer of `warm_steps`.
+-- `Steps` has the laws on the answer of `warm_steps`, and `Examples` the worked examples.
+pub mod Examples
 pub mod Steps
