@@ -1,6 +1,6 @@
 -- Laws on answers: the first cause that holds is the refusal (`refused-exactly`), and a list of causes is decided part by part (`unless-append`).
 use mathlib.Core.Path.{_≡_, refl, sym, ap, _∙_, subst}
-use mathlib.Core.Logic.{_↔_}
+use mathlib.Core.Logic.{_↔_, _⊎_, inl, inr}
 use mathlib.Core.Bool.{Bool, true, false, cond}
 use mathlib.Core.List.{List, [], _∷_, _++_}
 use Prim.Native.Nat.{ℕ}
@@ -85,3 +85,47 @@ all-passed (c ∷ cs) a e b = let p = passed-first c cs _ e in sym (passed-by c 
 
 pub unless-given : {A : Type 0} (cs : List Cause) (a : Answer A) {w : A} → unless cs a ≡ Given w → a ≡ Given w
 unless-given cs a e = sym (all-passed cs a e a) ∙ e
+
+-- ---- which causes a list can give
+
+-- some cause is the first that holds, or none holds
+pub first-decided : (cs : List Cause) → ((n : ℕ) × ((p : ℕ) × First cs n p)) ⊎ ((n p : ℕ) → First cs n p → ⊥)
+first-decided [] = inr (λ n p f. none f)
+  where
+    none : {n p : ℕ} → First [] n p → ⊥
+    none f = elim f [ ]
+first-decided (c ∷ cs) = go (c .holds) refl (first-decided cs)
+  where
+    past : c .holds ≡ false → {n p : ℕ} → First (c ∷ cs) n p → First cs n p
+    past h (here e) = absurd (let z : true ≡ false = sym e ∙ h in let w : _≡_ {A = ℕ} 0 1 = cc in omega arith)
+    past h (later e f) = f
+
+    go : (t : Bool) → c .holds ≡ t → ((n : ℕ) × ((p : ℕ) × First cs n p)) ⊎ ((n p : ℕ) → First cs n p → ⊥)
+        → ((n : ℕ) × ((p : ℕ) × First (c ∷ cs) n p)) ⊎ ((n p : ℕ) → First (c ∷ cs) n p → ⊥)
+    go true h d = inl (c .number, (c .place, here h))
+    go false h (inl w) = inl (w .0, (w .1 .0, later h (w .1 .1)))
+    go false h (inr n) = inr (λ m p f. n m p (past h f))
+
+-- where no cause holds, the answer is given
+pub none-holds : {A : Type 0} (cs : List Cause) (a : Answer A) → ((n p : ℕ) → First cs n p → ⊥) → unless cs a ≡ a
+none-holds [] a h = sym (none-left a)
+none-holds (c ∷ cs) a h = go (c .holds) refl (λ k. none-holds cs a k)
+  where
+    go : (t : Bool) → c .holds ≡ t → (((n p : ℕ) → First cs n p → ⊥) → unless cs a ≡ a) → unless (c ∷ cs) a ≡ a
+    go true e ih = absurd (h (c .number) (c .place) (here e))
+    go false e ih = sym (passed-by c cs a e (sym (ih (λ n p f. h n p (later e f)))))
+
+-- every number of the list is one of those that P allows
+unfoldable pub Numbered : (ℕ → Type 0) → List Cause → Type 0
+Numbered P [] = Unit {0}
+Numbered P (c ∷ cs) = P (c .number) × Numbered P cs
+
+pub numbered-first : (P : ℕ → Type 0) {n p : ℕ} {cs : List Cause} → First cs n p → Numbered P cs → P n
+unfolding Numbered
+numbered-first P (here e) h = h .0
+numbered-first P (later e f) h = numbered-first P f (h .1)
+
+pub numbered-append : (P : ℕ → Type 0) (cs ds : List Cause) → Numbered P cs → Numbered P ds → Numbered P (cs ++ ds)
+unfolding Numbered
+numbered-append P [] ds h k = k
+numbered-append P (c ∷ cs) ds h k = (h .0, numbered-append P cs ds (h .1) k)

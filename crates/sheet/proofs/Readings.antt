@@ -10,12 +10,13 @@ use lib.ListN.{length, length-map, length-append}
 use borrow.Author.Tests.{ltb-false, eqb-false, eqb-true, not-false}
 use Rattle.units.specs.Sets.{hasUnitFrom}
 use Rattle.sheet.specs.declared.Header.{Header}
+use Rattle.sheet.specs.declared.Step.{Step}
 use Rattle.sheet.specs.Answer.{Answer, Refused, Given, Cause, unless}
 use Rattle.sheet.specs.Chain.{following, chainOf, linkCauses, Inside, stepsFrom}
 use Rattle.sheet.specs.Format.{unitLimit, recordLimit, sheetLength, unitsOf, recordsOf, header, nextOf, stepOf}
 use Rattle.sheet.specs.Reading.{formCauses, headerCauses, stepsCauses, recordsOn, stepsOf, readCauses, Campaign, campaignOf, readingOf}
 use Rattle.sheet.specs.Told.{headerRead, chainRead, summary, summaryRead, summaryOf}
-use Rattle.sheet.proofs.Answers.{none-left, unless-append, given-same, passed-first, all-passed, unless-given, refused-whatever}
+use Rattle.sheet.proofs.Answers.{none-left, unless-append, given-same, passed-first, all-passed, unless-given, refused-whatever, Numbered, numbered-append}
 use Rattle.sheet.proofs.Chains.{Met, met-none, met-more, met-room}
 
 -- ---- the header
@@ -173,3 +174,34 @@ reading-walkable s {c} e =
       steps = following-steps (suc (recordsOf s)) s 0 ∙ ap (stepsFrom s 0) (sym many);
       few = omega (arith, many, kept .few, sound .few-records);
     })
+
+-- ---- the numbers of refusal that the reader can give
+
+module _ (P : ℕ → Type 0) (some : (n : ℕ) → 1 ≤ n → n ≤ 7 → P n) where
+  numbered-links : (r : ℕ) (met : List ℕ) (holder : ℕ) (on : List ℕ) → Numbered P (linkCauses r met holder on)
+  unfolding linkCauses Numbered
+  numbered-links r met holder [] = tt
+  numbered-links r met holder (j ∷ on) = (some 4 (omega arith) (omega arith), (some 5 (omega arith) (omega arith), numbered-links r (met ++ (j ∷ [])) j on))
+
+  numbered-steps : (d i : ℕ) (xs : List Step) → Numbered P (stepsCauses d i xs)
+  unfolding stepsCauses Numbered
+  numbered-steps d i [] = tt
+  numbered-steps d i (x ∷ xs) = (some 6 (omega arith) (omega arith), (some 7 (omega arith) (omega arith), numbered-steps d (i + 1) xs))
+
+  -- 1 to 7 and no other
+  pub numbered-read : (s : List ℕ) → Numbered P (readCauses s)
+  unfolding readCauses Numbered
+  numbered-read s =
+      numbered-append P (formCauses s ++ headerCauses s ++ linkCauses (recordsOf s) [] 0 (recordsOn s)) (stepsCauses (unitsOf s) 1 (stepsOf s))
+      (numbered-append P (formCauses s ++ headerCauses s) (linkCauses (recordsOf s) [] 0 (recordsOn s))
+      (one, (one, (two, (two, (three, (three, (three, (three, (three, (three, tt)))))))))) (numbered-links (recordsOf s) [] 0 (recordsOn s)))
+      (numbered-steps (unitsOf s) 1 (stepsOf s))
+    where
+      one : P 1
+      one = some 1 (omega arith) (omega arith)
+
+      two : P 2
+      two = some 2 (omega arith) (omega arith)
+
+      three : P 3
+      three = some 3 (omega arith) (omega arith)
