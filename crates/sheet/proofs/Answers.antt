@@ -21,6 +21,17 @@ pub none-left : {A : Type 0} (a : Answer A) → a ≡ unless [] a
 unfolding unless
 none-left a = refl
 
+-- what is alike of two answers is alike of them behind the same causes
+pub unless-alike : {A B : Type 0} (f : Answer A → B) (cs : List Cause) (a b : Answer A) → f a ≡ f b → f (unless cs a) ≡ f (unless cs b)
+unfolding unless
+unless-alike f [] a b e = e
+unless-alike f (c ∷ cs) a b e = go (c .holds) (unless-alike f cs a b e)
+  where
+    go : (t : Bool) → f (unless cs a) ≡ f (unless cs b)
+        → f (cond t (Refused (c .number) (c .place)) (unless cs a)) ≡ f (cond t (Refused (c .number) (c .place)) (unless cs b))
+    go true h = refl
+    go false h = h
+
 -- two answers with the same first cause are equal if they are where it does not hold
 pub past-first : {A : Type 0} (c : Cause) (cs ds : List Cause) (a b : Answer A) → (c .holds ≡ false → unless cs a ≡ unless ds b) → unless (c ∷ cs) a ≡ unless (c ∷ ds) b
 unfolding unless
