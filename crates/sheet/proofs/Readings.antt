@@ -181,12 +181,12 @@ module _ (P : ℕ → Type 0) (some : (n : ℕ) → 1 ≤ n → n ≤ 7 → P n)
   numbered-links : (r : ℕ) (met : List ℕ) (holder : ℕ) (on : List ℕ) → Numbered P (linkCauses r met holder on)
   unfolding linkCauses Numbered
   numbered-links r met holder [] = tt
-  numbered-links r met holder (j ∷ on) = (some 4 (omega arith) (omega arith), (some 5 (omega arith) (omega arith), numbered-links r (met ++ (j ∷ [])) j on))
+  numbered-links r met holder (j ∷ on) = (some _ (omega arith) (omega arith), (some _ (omega arith) (omega arith), numbered-links r (met ++ (j ∷ [])) j on))
 
   numbered-steps : (d i : ℕ) (xs : List Step) → Numbered P (stepsCauses d i xs)
   unfolding stepsCauses Numbered
   numbered-steps d i [] = tt
-  numbered-steps d i (x ∷ xs) = (some 6 (omega arith) (omega arith), (some 7 (omega arith) (omega arith), numbered-steps d (i + 1) xs))
+  numbered-steps d i (x ∷ xs) = (some _ (omega arith) (omega arith), (some _ (omega arith) (omega arith), numbered-steps d (i + 1) xs))
 
   -- 1 to 7 and no other
   pub numbered-read : (s : List ℕ) → Numbered P (readCauses s)

@@ -1,9 +1,14 @@
 // The entries that buyers call, over lent bytes and lent buffers. Each has no `requires`, and one `ensures` that equates its reply and
 // all lent memory with a definition of specs/Entries.antt, for any input. docs/FORMAT.md has the sheet and the refusal table.
 use sheet::ReadAnswer;
+use sheet::Step;
 ghost use mathlib.Core.Path.{_≡_};
+ghost use mathlib.Core.List.{_++_};
+ghost use Prim.Native.Nat.{_≤_};
+ghost use lib.ListN.{length, drop};
 ghost use Rattle.sheet.specs.Answer.{Refused};
-ghost use Rattle.warm.specs.Entries.{stepsAnswer, stepsReply};
+ghost use Rattle.sheet.specs.Chain.{Inside, stepsFrom};
+ghost use Rattle.warm.specs.Entries.{stepsAnswer, stepsReply, warmSteps};
 
 // What `warm_steps` replies. Where refusal is not 0, it is a refusal with its place, and the other numbers are 0.
 #[repr(C)]
@@ -53,4 +58,28 @@ fn steps_reply(sheet: &[u8], places: usize) -> StepsReply
             }
         }
     }
+}
+
+// Fills the first n places of the list with the first n steps of the chain, and leaves the others.
+fn fill_steps(sheet: &[u8], steps: &mut [Step], n: usize)
+    requires { ⌜ Inside (now sheet) 0 n × (n ≤ length (now steps)) ⌝ }
+    ensures { λ _. ⌜ now (steps .exit) ≡ stepsFrom (now (sheet .entry)) 0 n ++ drop n (now (steps .entry)) ⌝ }
+{
+    let mut record = 0;
+    let mut i = 0;
+    while i < n {
+        record = sheet::record::follow(sheet, record);
+        steps[i] = sheet::record::step_at(sheet, record);
+        i += 1;
+    }
+}
+
+// The steps of a sheet, one struct a step, into the first places of the list.
+#[no_mangle]
+pub extern "C" fn warm_steps(sheet: &[u8], steps: &mut [Step]) -> StepsReply
+    ensures { λ r. ⌜ (r, now (steps .exit)) ≡ warmSteps (now (sheet .entry)) (now (steps .entry)) ⌝ }
+{
+    let reply = steps_reply(sheet, steps.len());
+    fill_steps(sheet, steps, reply.steps as usize);
+    reply
 }

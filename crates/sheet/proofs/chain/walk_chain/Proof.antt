@@ -52,7 +52,9 @@ walk-again : tie.Need-walk-again Inv-walk μ-walk
 walk-again c = rw (c .step-onto .ensures ∙ ap (onto (c .before .before .before .before .before .before .walk .walk)) (c .before .before .before .before .before .follow .ensures .0)) (onward (c .before .before .before .before .before .before .walk .inv) (omega (arith, c .before .before .before .before .before .follow .ensures .0)) (omega arith) (omega (arith, c .before .before .before .before .before .follow .ensures .0)) (ap (isMet (c .before .before .before .before .before .before .walk .walk)) (sym (c .before .before .before .before .before .follow .ensures .0)) ∙ sym (c .before .before .has-met .ensures) ∙ c .before .if3 .left))
 
 cast-t11 : tie.Need-cast-t11 Inv-walk μ-walk
-cast-t11 c = omega (arith, c .before .before .before .before .before .before .walk .inv .inside)
+cast-t11 c =
+    let g = c .before .before .before .before .before .before .walk .inv in
+    omega (arith, g .inside, g .counted, met-room (g .met))
 
 returns-3 : tie.Need-returns-3 Inv-walk μ-walk
 returns-3 c = met-again (c .before .before .before .before .before .before .walk .inv) (omega (arith, c .before .before .before .before .before .follow .ensures .0)) (omega arith) (omega (arith, c .before .before .before .before .before .follow .ensures .0)) (ap (isMet (c .before .before .before .before .before .before .walk .walk)) (sym (c .before .before .before .before .before .follow .ensures .0)) ∙ sym (c .before .before .has-met .ensures) ∙ c .before .if3 .taken)

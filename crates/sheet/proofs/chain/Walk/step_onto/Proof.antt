@@ -1,5 +1,8 @@
 -- `sheet::chain::Walk::step_onto` meets its contract.
-use Rattle.sheet.specs.Walking.{onto}
+use mathlib.Core.Path.{ap}
+use Prim.Native.Nat.{ℕ, _+_}
+use lib.ListN.{set}
+use Rattle.sheet.specs.Walking.{onto, wordOf}
 use borrow.Author.Needs.{needs}
 use Rattle.sheet.proofs.chain.Walk.step_onto.Statement.{statement}
 use Rattle.sheet.proofs.chain.Walk.step_onto.Tie as tie
@@ -33,7 +36,9 @@ add-t5 c = search needs
 
 returns : tie.Need-returns
 unfolding onto
-returns c = cc
+returns c =
+    let a = c .before .before .before .args in
+    ap (λ (x : ℕ). record { marks = set (a .self .marks) (wordOf (a .j)) x; at = a .j; steps = a .self .steps + 1 }) (c .before .insert .ensures)
 
 pub step-onto-spec : {M : Type 1} → statement M
 step-onto-spec =
