@@ -1,0 +1,62 @@
+-- `cases::fixed::put_most_steps` is safe and ends: k counts up to 256.
+use Prim.Native.Nat.{_≤_, _-_}
+use borrow.Author.Needs.{needs}
+use Rattle.cases.proofs.fixed.put_most_steps.Statement.{statement}
+use Rattle.cases.proofs.fixed.put_most_steps.Tie as tie
+
+abbrev Inv-loop : tie.InvT-loop
+Inv-loop bytes₀ k₀ bytes k = k ≤ 256
+
+abbrev μ-loop : tie.MeasureT-loop
+μ-loop bytes₀ k₀ bytes k = 256 - k
+
+put-plain-head-requires : tie.Need-put-plain-head-requires Inv-loop μ-loop
+put-plain-head-requires c κs = search needs
+
+loop-holds : tie.Need-loop-holds Inv-loop μ-loop
+loop-holds c = search needs
+
+add-put-link : tie.Need-add-put-link Inv-loop μ-loop
+add-put-link c = search needs
+
+put-link-requires : tie.Need-put-link-requires Inv-loop μ-loop
+put-link-requires c κs = search needs
+
+add-k : tie.Need-add-k Inv-loop μ-loop
+add-k c = search needs
+
+any-of-requires : tie.Need-any-of-requires Inv-loop μ-loop
+any-of-requires c κs = search needs
+
+put-limits-requires : tie.Need-put-limits-requires Inv-loop μ-loop
+put-limits-requires c κs = search needs
+
+loop-less : tie.Need-loop-less Inv-loop μ-loop
+loop-less c = search needs
+
+loop-again : tie.Need-loop-again Inv-loop μ-loop
+loop-again c = search needs
+
+put-link-requires-2 : tie.Need-put-link-requires-2 Inv-loop μ-loop
+put-link-requires-2 c κs = search needs
+
+returns : tie.Need-returns Inv-loop μ-loop
+returns c = search needs
+
+pub put-most-steps-spec : {M : Type 1} → statement M
+put-most-steps-spec =
+    tie.close
+    (tie.spec
+    Inv-loop
+    μ-loop
+    put-plain-head-requires
+    loop-holds
+    add-put-link
+    put-link-requires
+    add-k
+    any-of-requires
+    put-limits-requires
+    loop-less
+    loop-again
+    put-link-requires-2
+    returns)

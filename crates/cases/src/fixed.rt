@@ -1,0 +1,98 @@
+// Sheets that are written out by hand, at the edges of the format.
+use super::layout::Head;
+use super::layout::LONGEST;
+use super::layout::Limits;
+use super::layout::SPACE;
+use super::layout::Space;
+use super::layout::put_head;
+use super::layout::put_limits;
+use super::layout::put_link;
+use super::tally::Tally;
+use super::trial::is_read;
+use super::trial::is_refused;
+use sheet::Summary;
+ghost use Prim.Native.Nat.{_<_};
+
+// The limits of a step that allows any set of the units given.
+fn any_of(units: u64) -> Limits {
+    Limits {
+        lower: 0,
+        upper: units,
+        least: 0,
+        greatest: 64,
+    }
+}
+
+// Puts the header of a sheet with these units and records.
+fn put_plain_head(bytes: &mut Space, units: usize, records: usize)
+    requires { ⌜ (units < 256) × (records < 65536) ⌝ }
+{
+    put_head(
+        bytes,
+        Head {
+            units,
+            records,
+            bound: 7,
+            start: 1,
+        },
+    );
+}
+
+// Puts 256 steps into the records 1 to 256.
+fn put_most_steps(bytes: &mut Space) {
+    put_plain_head(bytes, 1, 256);
+    let mut k = 0;
+    while k < 256 {
+        put_link(bytes, k, k + 1);
+        k += 1;
+        put_limits(bytes, k, any_of(1));
+    }
+    put_link(bytes, 256, 0);
+}
+
+// What the reader is to read from these sheets.
+fn summary(units: u32, steps: u32) -> Summary {
+    Summary {
+        units,
+        steps,
+        bound: 7,
+        start: 1,
+    }
+}
+
+// Tries the longest sheet, and a byte more.
+fn try_longest() -> Tally {
+    let mut bytes = [0u8; SPACE];
+    put_most_steps(&mut bytes);
+    let longest = Tally::of(is_read(&bytes, LONGEST, summary(1, 256)));
+    let longer = Tally::of(is_refused(&bytes, LONGEST + 1, 1, 0));
+    longest.plus(longer)
+}
+
+// Tries a header alone, and a byte fewer.
+fn try_shortest() -> Tally {
+    let mut bytes = [0u8; SPACE];
+    put_plain_head(&mut bytes, 1, 0);
+    let shortest = Tally::of(is_read(&bytes, 24, summary(1, 0)));
+    let shorter = Tally::of(is_refused(&bytes, 23, 1, 0));
+    shortest.plus(shorter)
+}
+
+// Tries a step with all of 64 units in its upper set, and one with unit 63 there, which a sheet of 63 units does not have.
+fn try_most_units() -> Tally {
+    let mut bytes = [0u8; SPACE];
+    put_plain_head(&mut bytes, 64, 1);
+    put_link(&mut bytes, 0, 1);
+    put_limits(&mut bytes, 1, any_of(u64::MAX));
+    let most = Tally::of(is_read(&bytes, 48, summary(64, 1)));
+    put_plain_head(&mut bytes, 63, 1);
+    put_link(&mut bytes, 0, 1);
+    put_limits(&mut bytes, 1, any_of(1u64 << 63));
+    let more = Tally::of(is_refused(&bytes, 48, 6, 1));
+    most.plus(more)
+}
+
+// Tries all sheets of this file.
+pub fn try_all() -> Tally {
+    try_shortest().plus(try_longest()).plus(try_most_units())
+}
