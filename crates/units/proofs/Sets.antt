@@ -166,6 +166,10 @@ outside s u h = go (bit-cases s u)
     go (inl e) = e
     go (inr e) = absurd (eqb-false (bit s u) 1 h e)
 
+pub remove-le : (s v : ℕ) → remove s v ≤ s
+unfolding remove difference
+remove-le s v = omega arith
+
 -- ---- sizes
 
 pub size-step : (s : ℕ) → size s ≡ s % 2 + size (s / 2)
@@ -229,6 +233,11 @@ size-insert s v h = size-remove (insert s v) v (bit-insert s v) ∙ ap (λ (x : 
 pub size-below : (k s : ℕ) → s < 2 ^ k → size s ≤ k
 unfolding size
 size-below k s h = ones-le k s h
+
+-- a set with units is not 0
+pub size-pos : (s : ℕ) → 0 < size s → 0 < s
+size-pos zero h = absurd (omega (arith, size-empty))
+size-pos (suc s) h = omega arith
 
 -- a set that is not empty has a unit
 pub some-unit : (s : ℕ) → 0 < s → (u : ℕ) × (bit s u ≡ 1)

@@ -1,5 +1,5 @@
 -- The machine's operations on words of k bits, as sets: a shifted one is a single unit, and a mask with a complement is a difference.
-use mathlib.Core.Path.{_≡_, refl, sym, ap, _∙_}
+use mathlib.Core.Path.{_≡_, refl, sym, ap, _∙_, subst}
 use mathlib.Core.Logic.{_⊎_, inl, inr}
 use mathlib.Core.Bool.{Bool, true, false, not}
 use Prim.Native.Nat.{ℕ, zero, suc, _+_, _-_, _*_, _/_, _%_, _^_, _≤_, _<_, min}
@@ -8,10 +8,11 @@ use native.Mathlib.Decide.{ℕ-discrete, decLe}
 use native.Mathlib.Omega.{arith}
 use borrow.Author.Tests.{eq-eqb, ne-eqb, le-leb, lt-leb}
 use lib.Bits.{bitAnd, and-step, and-le-l}
+use lib.Count.{trailingZeros, leadingZeros, leading-top, under}
 use lib.Dec.{eqb, leb, lit<}
 use lib.Pow.{pow-pos, shl-exact, split}
-use Rattle.units.specs.Sets.{bit, intersection, difference, contains}
-use Rattle.units.proofs.Sets.{bit-cases, bit-intersection, bit-single, bit-single-other, bit-empty, set-ext}
+use Rattle.units.specs.Sets.{bit, intersection, difference, contains, Lowest, Highest}
+use Rattle.units.proofs.Sets.{bit-zero, bit-suc, unit-below, below-pow, bit-cases, bit-intersection, bit-single, bit-single-other, bit-empty, set-ext}
 
 -- a one shifted by a unit's number is that unit's weight
 pub one-shifted : (u : ℕ) → u < 64 → 1 * 2 ^ u % 2 ^ 64 ≡ 2 ^ u
@@ -58,3 +59,50 @@ shifted-out s d = go (decLe (2 ^ d) s)
     go : Dec (2 ^ d ≤ s) → not (eqb (s / 2 ^ d) 0) ≡ leb (2 ^ d) s
     go (yes h) = ap not (ne-eqb (s / 2 ^ d) 0 (λ e. omega (arith, split s d, mod-lt s (pow-pos d), ap (λ (q : ℕ). q * 2 ^ d) e, h))) ∙ sym (le-leb (2 ^ d) s h)
     go (no n) = ap not (eq-eqb (s / 2 ^ d) 0 (div-eq-of-lt (omega arith))) ∙ sym (lt-leb (2 ^ d) s (omega arith))
+
+-- the zeros below the lowest digit that is set are as many as the number of the lowest unit
+pub trailing-lowest : (k a : ℕ) → 0 < a → a < 2 ^ k → Lowest a (trailingZeros k a)
+unfolding trailingZeros
+trailing-lowest zero a p h = absurd (omega arith)
+trailing-lowest (suc k) a p h = go (a % 2) refl (λ q. trailing-lowest k (a / 2) q (omega (arith, pow-suc 2 k)))
+  where
+    go : (x : ℕ) → a % 2 ≡ x → (0 < a / 2 → Lowest (a / 2) (trailingZeros k (a / 2))) → Lowest a (under x (trailingZeros k (a / 2)))
+    go zero e ih =
+        let r = ih (omega arith) in
+        record { has = bit-suc a (trailingZeros k (a / 2)) ∙ r .has; first = λ v l. below v l (r .first) }
+      where
+        below : (v : ℕ) → v < suc (trailingZeros k (a / 2)) → ((w : ℕ) → w < trailingZeros k (a / 2) → bit (a / 2) w ≡ 0) → bit a v ≡ 0
+        below zero l f = bit-zero a ∙ e
+        below (suc v) l f = bit-suc a v ∙ f v (omega arith)
+    go (suc x) e ih = record { has = bit-zero a ∙ omega arith; first = λ v l. absurd (omega arith) }
+
+-- the highest digit of a number is set
+top-bit : (a j : ℕ) → 2 ^ j ≤ a → a < 2 ^ suc j → bit a j ≡ 1
+top-bit a j l u = go (bit-cases a j)
+  where
+    go : (bit a j ≡ 0) ⊎ (bit a j ≡ 1) → bit a j ≡ 1
+    go (inr e) = e
+    go (inl e) = absurd (omega (arith, l, below-pow j a none))
+      where
+        none : (v : ℕ) → j ≤ v → bit a v ≡ 0
+        none v h = at (ℕ-discrete v j) (bit-cases a v)
+          where
+            at : Dec (v ≡ j) → (bit a v ≡ 0) ⊎ (bit a v ≡ 1) → bit a v ≡ 0
+            at d (inl z) = z
+            at (yes q) (inr o) = ap (bit a) q ∙ e
+            at (no n) (inr o) = absurd (omega (arith, unit-below (suc j) a v u o))
+
+-- the zeros above the highest digit that is set, with the number of the highest unit and one, are all k digits
+pub leading-highest : (k a j : ℕ) → leadingZeros k a + suc j ≡ k → 0 < a → a < 2 ^ k → Highest a j
+leading-highest k a j e p h =
+    let t = leading-top k a p h in
+    let same : t .0 ≡ j = omega (arith, t .1) in
+    subst (Highest a) same
+    (record {
+      has = top-bit a (t .0) (t .2) (t .3);
+      first = λ v l. high v (bit-cases a v) (omega arith) (t .3);
+    })
+  where
+    high : (v : ℕ) {j : ℕ} → (bit a v ≡ 0) ⊎ (bit a v ≡ 1) → j < v → a < 2 ^ suc j → bit a v ≡ 0
+    high v (inl z) l u = z
+    high v {j} (inr o) l u = absurd (omega (arith, unit-below (suc j) a v u o))

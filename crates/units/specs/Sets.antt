@@ -1,6 +1,7 @@
 -- Sets of units as numbers. A set is a number in which unit u has weight 2 ^ u, so that the digits of a number in base two say which units are in it.
 -- A reader should look at `bit`, from which a set's units are known, and at `size` and `unitsBelow`, of which a law in proofs/ says that they agree.
-use Prim.Native.Nat.{ℕ, zero, suc, _+_, _-_, _/_, _%_, _^_, _≤_}
+use mathlib.Core.Path.{_≡_}
+use Prim.Native.Nat.{ℕ, zero, suc, _+_, _-_, _/_, _%_, _^_, _≤_, _<_}
 use mathlib.Core.List.{List, [], _∷_, _++_}
 use mathlib.Core.Bool.{Bool, true, false, cond, not}
 use lib.Bits.{bitAnd, bitOr}
@@ -55,3 +56,15 @@ unitsBelow (suc k) s = unitsBelow k s ++ cond (contains s k) (k ∷ []) []
 -- the test that s has a unit from d up: it is then 2 ^ d or more
 unfoldable pub hasUnitFrom : ℕ → ℕ → Bool
 hasUnitFrom s d = leb (2 ^ d) s
+
+-- u is a unit of s, and none goes before it in an order
+pub record Leads (Before : ℕ → ℕ → Type 0) (s u : ℕ) : Type 0 where
+  pub has : bit s u ≡ 1
+  pub first : (v : ℕ) → Before v u → bit s v ≡ 0
+
+-- u is the lowest unit of s, or the highest
+abbrev pub Lowest : ℕ → ℕ → Type 0
+Lowest s u = Leads (λ v w. v < w) s u
+
+abbrev pub Highest : ℕ → ℕ → Type 0
+Highest s u = Leads (λ v w. w < v) s u

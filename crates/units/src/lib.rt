@@ -3,8 +3,8 @@
 // Each function is one or two machine operations and ensures that its result is the set, size or test that specs/Sets.antt defines.
 // Those that take a unit require that it is below 64. They serve the crates above; none is an open entry of the library.
 ghost use mathlib.Core.Path.{_≡_};
-ghost use Prim.Native.Nat.{_<_, _≤_};
-ghost use Rattle.units.specs.Sets.{union, intersection, difference, isSubset, contains, insert, remove, size, hasUnitFrom};
+ghost use Prim.Native.Nat.{ℕ, _<_, _≤_};
+ghost use Rattle.units.specs.Sets.{union, intersection, difference, isSubset, contains, insert, remove, size, hasUnitFrom, Lowest, Highest};
 ghost use Rattle.units.specs.Limits.{hasFeasible};
 
 // The units of either set.
@@ -93,4 +93,20 @@ pub fn has_feasible(lower: u64, upper: u64, least: u8, greatest: u8) -> bool
         return false;
     }
     least <= size(upper)
+}
+
+// The lowest unit of s, which has one.
+pub fn lowest(s: u64) -> u32
+    requires { ⌜ 0 < s ⌝ }
+    ensures { λ r. ⌜ Lowest s r ⌝ }
+{
+    u64::trailing_zeros(s)
+}
+
+// The highest unit of s, which has one.
+pub fn highest(s: u64) -> u32
+    requires { ⌜ 0 < s ⌝ }
+    ensures { λ r. ⌜ Highest s r ⌝ }
+{
+    63 - u64::leading_zeros(s)
 }

@@ -1,0 +1,162 @@
+-- The set that FindSupport takes in a step is greedy, for every ranking that fits (`support-greedy`), and so is the plan (`plan-greedy`).
+use mathlib.Core.Path.{_≡_, refl, ap}
+use mathlib.Core.Logic.{_⊎_, inl, inr}
+use mathlib.Core.Bool.{Bool, true}
+use mathlib.Core.List.{List, [], _∷_}
+use Prim.Native.Nat.{ℕ, _+_, _-_, _≤_, min, max}
+use native.Mathlib.Omega.{arith}
+use lib.ListN.{length}
+use Rattle.units.specs.Limits.{hasFeasible}
+use Rattle.units.specs.Sets.{bit, union, intersection, difference, Subset, size}
+use Rattle.units.proofs.Limits.{some-feasible}
+use Rattle.units.proofs.Sets.{bit-le, bit-cases, bit-union, bit-intersection, bit-difference, set-ext, size-split, size-mono, size-remove}
+use Rattle.switch.specs.Switch.{Satisfiable, Limits, Allows}
+use Rattle.switch.specs.Support.{taken, ranksBefore, supportSet, supportFrom, findSupport}
+use Rattle.switch.proofs.Chosen.{Chosen, taken-chosen}
+use Rattle.switch.proofs.Orders.{mirror-ordered}
+use Rattle.switch.proofs.Ranks.{Refines, ranks-refines}
+use Rattle.switch.proofs.Stands.{StandsFor, Greedy, GreedyPlan}
+
+-- ---- sizes
+
+-- a set with a unit has one at the least
+bit-size : (a u : ℕ) → bit a u ≤ size a
+bit-size a u = go (bit-cases a u)
+  where
+    go : (bit a u ≡ 0) ⊎ (bit a u ≡ 1) → bit a u ≤ size a
+    go (inl e) = omega arith
+    go (inr e) = omega (arith, size-remove a u e)
+
+-- without the units of a, a set has at the most so many less
+pub size-rest : (a b : ℕ) → size b ≤ size (difference b a) + size a
+size-rest a b = omega (arith, size-split b a, size-mono (intersection b a) a (λ u. omega (arith, bit-intersection b a u)))
+
+-- and just so many less if it has them all
+pub size-without : (a b : ℕ) → Subset a b → size b ≡ size (difference b a) + size a
+size-without a b h =
+    omega (arith, size-split b a, ap size (set-ext (intersection b a) a (λ u. omega (arith, bit-intersection b a u, h u))))
+
+-- sets without a common unit have together as many as both
+size-union : (a b : ℕ) → ((u : ℕ) → bit a u + bit b u ≤ 1) → size (union a b) ≡ size a + size b
+size-union a b h =
+    omega (
+      arith,
+      size-without a (union a b) (λ u. omega (arith, bit-union a b u)),
+      ap size (set-ext (difference (union a b) a) b (λ u. omega (arith, bit-difference (union a b) a u, bit-union a b u, h u))),
+    )
+
+-- ---- the set of a step
+
+-- what is known of one unit: its digits in the set before, in the step's lower and upper set, and in those that `supportSet` goes through
+record Digits (before lower upper begun leaving kept joining support : ℕ) : Type 0 where
+  digit : before ≤ 1
+  room : lower ≤ upper
+  begin : begun ≡ max (min before upper) lower
+  leave : leaving ≤ begun - lower
+  keep : kept ≡ begun - leaving
+  join : joining ≤ upper - kept
+  take : support ≡ max kept joining
+
+module _ (ranks : ℕ → ℕ → Bool) (s : Limits) (before : ℕ) where
+  -- the sets of `supportSet`, by name
+  begun : ℕ
+  begun = union (intersection before (s .upper)) (s .lower)
+
+  leaving : ℕ
+  leaving = taken (λ u v. ranks v u) (size begun - s .greatest) (difference begun (s .lower))
+
+  kept : ℕ
+  kept = difference begun leaving
+
+  joining : ℕ
+  joining = taken ranks (s .least - size kept) (difference (s .upper) kept)
+
+  -- so `supportSet` is this
+  support-is : supportSet ranks s before ≡ union kept joining
+  unfolding supportSet begun leaving kept joining
+  support-is = refl
+
+  module _ (ss : List Limits) (r : Refines (s ∷ ss) ranks) (x : ℕ) (f : Allows s x) where
+    -- there are as many units to leave and to join as are wanted
+    leaving-chosen : Chosen (λ u v. ranks v u) (size begun - s .greatest) (difference begun (s .lower)) leaving
+    unfolding leaving
+    leaving-chosen = taken-chosen (mirror-ordered (r .ordered)) _ _ (omega (arith, size-rest (s .lower) begun, size-mono (s .lower) x (f .includes)))
+
+    joining-chosen : Chosen ranks (s .least - size kept) (difference (s .upper) kept) joining
+    unfolding joining
+    joining-chosen = taken-chosen (r .ordered) _ _ (omega (arith, size-rest kept (s .upper), size-mono x (s .upper) (f .within)))
+
+    -- so this holds of each unit
+    digits-of : (u : ℕ)
+        → Digits (bit before u) (bit (s .lower) u) (bit (s .upper) u) (bit begun u) (bit leaving u) (bit kept u) (bit joining u)
+        (bit (supportSet ranks s before) u)
+    unfolding begun kept
+    digits-of u = record {
+      digit = bit-le before u;
+      room = omega (arith, f .includes u, f .within u);
+      begin = omega (arith, bit-union (intersection before (s .upper)) (s .lower) u, bit-intersection before (s .upper) u);
+      leave = omega (arith, leaving-chosen .inside u, bit-difference begun (s .lower) u);
+      keep = bit-difference begun leaving u;
+      join = omega (arith, joining-chosen .inside u, bit-difference (s .upper) kept u);
+      take = rw support-is (bit-union kept joining u);
+    }
+
+    -- and this of the sizes
+    kept-size : size kept ≡ min (size begun) (s .greatest)
+    unfolding kept
+    kept-size = omega (arith, size-without leaving begun (λ u. omega (arith, digits-of u)), leaving-chosen .counted)
+
+    support-size : size (supportSet ranks s before) ≡ max (size kept) (s .least)
+    support-size =
+        rw support-is (omega (arith, size-union kept joining (λ u. omega (arith, digits-of u, bit-le (s .upper) u)), joining-chosen .counted))
+
+    -- a unit that ranks before another stands for it over the later steps, if it is not required now and the other is allowed now
+    stands-after : (v w : ℕ) → ranks v w ≡ true → bit (s .lower) v ≡ 0 → bit (s .upper) w ≡ 1 → StandsFor ss v w
+    unfolding StandsFor
+    stands-after v w h l a = (r .stands v w h l a) .1 .1
+
+    -- The set of the step is greedy. Where a unit leaves, there were more than the greatest number, so that none joins, and each unit that is kept
+    -- and not required ranks before it. Where a unit joins, fewer than the least number were kept, and it ranks before all that may be on and are not.
+    pub support-greedy : Greedy s ss before (supportSet ranks s before)
+    support-greedy = record {
+      allowed = record {
+        includes = λ u. omega (arith, digits-of u);
+        within = λ u. omega (arith, digits-of u);
+        enough = omega (arith, support-size);
+        few = omega (arith, support-size, kept-size);
+      };
+      leaves = λ w b a g.
+          let left : bit leaving w ≡ 1 = omega (arith, digits-of w) in
+          let full : size kept ≡ s .greatest = omega (arith, kept-size, bit-size leaving w, leaving-chosen .counted) in (
+            omega (arith, support-size),
+            λ v t l.
+                let none : bit joining v ≡ 0 = omega (arith, bit-size joining v, joining-chosen .counted) in
+                let stays : bit (difference begun (s .lower)) v ≡ 1 = omega (arith, digits-of v, bit-difference begun (s .lower) v) in
+                (omega (arith, digits-of v), stands-after v w (leaving-chosen .ahead w v left stays (omega (arith, digits-of v))) l a),
+          );
+      joins = λ v t b l.
+          let joined : bit joining v ≡ 1 = omega (arith, digits-of v) in (
+            omega (arith, support-size, bit-size joining v, joining-chosen .counted),
+            λ w a g.
+                let free : bit (difference (s .upper) kept) w ≡ 1 = omega (arith, digits-of w, bit-difference (s .upper) kept w) in
+                stands-after v w (joining-chosen .ahead v w joined free (omega (arith, digits-of w))) l a,
+          );
+    }
+
+-- ---- the plan
+
+-- then the sets of the steps from i on are greedy
+pub support-from-greedy : (n i before : ℕ) (ss : List Limits) → i + length ss ≡ n + 1 → Satisfiable ss
+    → GreedyPlan before ss (supportFrom n i before ss)
+unfolding GreedyPlan supportFrom
+support-from-greedy n i before [] h f = tt
+support-from-greedy n i before (s ∷ ss) h f =
+    let x = (some-feasible (s .lower) (s .upper) (s .least) (s .greatest)) .0 (f .0) in (
+      support-greedy (ranksBefore n i (s ∷ ss)) s before ss (ranks-refines n i (s ∷ ss) h) (x .0) (x .1),
+      support-from-greedy n (i + 1) _ ss (omega arith) (f .1),
+    )
+
+-- and so is the plan
+pub plan-greedy : (start : ℕ) (ss : List Limits) → Satisfiable ss → GreedyPlan start ss (findSupport start ss)
+unfolding findSupport
+plan-greedy start ss f = support-from-greedy (length ss) 1 start ss (omega arith) f

@@ -1,0 +1,362 @@
+-- How the first units of a set in a ranking are found by looking at one step after the other.
+--
+-- At a step the units fall into three groups: those required now, those that the step leaves open, and those forbidden now. The first group ranks before
+-- the second and that before the third; within the first and the third the tie order decides, and the second is ranked as from the next step on.
+-- So the first k units are taken from the groups in turn (`taken-front`, `taken-past`). The last k are found in the same way from the other end.
+use mathlib.Core.Path.{_≡_, refl, sym, ap, _∙_, subst}
+use mathlib.Core.Logic.{_⊎_, inl, inr}
+use mathlib.Core.Bool.{Bool, true, false, cond}
+use mathlib.Core.List.{List, [], _∷_}
+use Prim.Native.Nat.{ℕ, zero, suc, _+_, _-_, _^_, _≤_, _<_, min}
+use native.Mathlib.Decide.{decLt}
+use native.Mathlib.Omega.{arith}
+use borrow.Author.Tests.{le-ltb}
+use lib.Dec.{ltb}
+use lib.ListN.{length}
+use Rattle.units.specs.Sets.{bit, union, intersection, difference, Subset, insert, remove, size}
+use Rattle.units.proofs.Sets.{bit-le, bit-cases, bit-union, bit-intersection, bit-difference, bit-empty, set-ext, size-split, size-mono, size-remove}
+use Rattle.switch.specs.Columns.{toward, FirstByNumber, bare}
+use Rattle.switch.specs.Looked.{Looked}
+use Rattle.switch.specs.Support.{ranksBefore, taken, tieOrder}
+use Rattle.switch.specs.Switch.{Limits}
+use Rattle.switch.proofs.Chosen.{First, Chosen, one-more, taken-chosen, chosen-unique}
+use Rattle.switch.proofs.Orders.{Ordered, mirror-ordered, ltb-ordered}
+use Rattle.switch.proofs.Ranks.{required-better, allowed-better, required-tied, forbidden-tied, open-ranked, better-ranks, ranks-ordered}
+
+-- ---- a group of c that goes before the rest of it
+
+module _ {before : ℕ → ℕ → Bool} (c a : ℕ) (part : Subset a c) (front : (v w : ℕ) → bit a v ≡ 1 → bit c w ≡ 1 → bit a w ≡ 0 → before v w ≡ true) where
+  -- the first units of the group are the first of all
+  front-chosen : {k g : ℕ} → Chosen before k a g → Chosen before k c g
+  front-chosen {k} {g} h =
+      record { inside = λ u. omega (arith, h .inside u, part u); counted = h .counted; ahead = λ v w p q r. go v w p q r (bit-cases a w) }
+    where
+      go : (v w : ℕ) → bit g v ≡ 1 → bit c w ≡ 1 → bit g w ≡ 0 → (bit a w ≡ 0) ⊎ (bit a w ≡ 1) → before v w ≡ true
+      go v w p q r (inl e) = front v w (omega (arith, h .inside v, bit-le a v)) q e
+      go v w p q r (inr e) = h .ahead v w p e r
+
+  -- the whole group with the first units of the rest are the first of all
+  past-chosen : {k g : ℕ} → Chosen before k (difference c a) g → Chosen before (size a + k) c (union a g)
+  past-chosen {k} {g} h =
+      record {
+        inside = λ u. omega (arith, h .inside u, part u, bit-union a g u, bit-difference c a u);
+        counted = sum;
+        ahead = λ v w p q r. go v w p q r (bit-cases a v);
+      }
+    where
+      apart : (u : ℕ) → bit (difference (union a g) a) u ≡ bit g u
+      apart u = omega (arith, bit-difference (union a g) a u, bit-union a g u, h .inside u, bit-difference c a u, bit-le g u, bit-le a u, bit-le c u)
+
+      together : (u : ℕ) → bit (intersection (union a g) a) u ≡ bit a u
+      together u = omega (arith, bit-intersection (union a g) a u, bit-union a g u)
+
+      sum : size (union a g) ≡ size a + k
+      sum =
+          omega (arith, size-split (union a g) a, ap size (set-ext (intersection (union a g) a) a together), ap size (set-ext (difference (union a g) a) g apart), h .counted)
+
+      go : (v w : ℕ) → bit (union a g) v ≡ 1 → bit c w ≡ 1 → bit (union a g) w ≡ 0 → (bit a v ≡ 0) ⊎ (bit a v ≡ 1) → before v w ≡ true
+      go v w p q r (inr e) = front v w e q (omega (arith, bit-union a g w))
+      go v w p q r (inl e) =
+          h .ahead v w (omega (arith, bit-union a g v)) (omega (arith, bit-difference c a w, bit-union a g w)) (omega (arith, bit-union a g w))
+
+-- an order that agrees on the units of c has the same first units
+same-chosen : {before after : ℕ → ℕ → Bool} {k c g : ℕ} → ((v w : ℕ) → bit c v ≡ 1 → bit c w ≡ 1 → before v w ≡ after v w)
+    → Chosen before k c g → Chosen after k c g
+same-chosen {before} {after} {k} {c} {g} e h =
+    record {
+      inside = h .inside;
+      counted = h .counted;
+      ahead = λ v w p q r. sym (e v w (omega (arith, h .inside v, bit-le c v)) q) ∙ h .ahead v w p q r;
+    }
+
+-- ---- the first units of a set, by a group that goes before the rest
+
+module _ {before : ℕ → ℕ → Bool} (o : Ordered before) (c a : ℕ) (part : Subset a c)
+    (front : (v w : ℕ) → bit a v ≡ 1 → bit c w ≡ 1 → bit a w ≡ 0 → before v w ≡ true) where
+  pub taken-front : (k : ℕ) → k ≤ size a → taken before k c ≡ taken before k a
+  taken-front k h =
+      chosen-unique o (taken-chosen o k c (omega (arith, size-mono a c part))) (front-chosen c a part front (taken-chosen o k a h))
+
+  size-rest : size c ≡ size a + size (difference c a)
+  size-rest = omega (arith, size-split c a, ap size (set-ext (intersection c a) a (λ u. omega (arith, bit-intersection c a u, part u))))
+
+  pub taken-past : (k : ℕ) → size a ≤ k → k ≤ size c → taken before k c ≡ union a (taken before (k - size a) (difference c a))
+  taken-past k h l =
+      let sum : size a + (k - size a) ≡ k = omega arith in
+      chosen-unique o (taken-chosen o k c l)
+      (subst (λ (m : ℕ). Chosen before m c (union a (taken before (k - size a) (difference c a)))) sum
+      (past-chosen c a part front (taken-chosen o (k - size a) (difference c a) (omega (arith, size-rest)))))
+
+pub taken-same : {before after : ℕ → ℕ → Bool} → Ordered before → Ordered after → (k c : ℕ) → k ≤ size c
+    → ((v w : ℕ) → bit c v ≡ 1 → bit c w ≡ 1 → before v w ≡ after v w) → taken before k c ≡ taken after k c
+taken-same o q k c h e = chosen-unique q (same-chosen e (taken-chosen o k c h)) (taken-chosen q k c h)
+
+pub toward-ordered : (last : Bool) {before : ℕ → ℕ → Bool} → Ordered before → Ordered (toward last before)
+toward-ordered false o = o
+toward-ordered true o = mirror-ordered o
+
+-- ---- the groups of a step
+
+module _ (n i : ℕ) (s : Limits) (ss : List Limits) (h : i + length (s ∷ ss) ≡ n + 1) where
+  -- a unit that may be on ranks before one that may not, and one that must be on before one that need not
+  allowed-first : (u v : ℕ) → bit (s .upper) u ≡ 1 → bit (s .upper) v ≡ 0 → ranksBefore n i (s ∷ ss) u v ≡ true
+  allowed-first u v p q = better-ranks n i (s ∷ ss) u v (allowed-better n i s ss h u v p q)
+
+  required-first : (u v : ℕ) → bit (s .lower) u ≡ 1 → bit (s .upper) u ≡ 1 → bit (s .lower) v ≡ 0 → ranksBefore n i (s ∷ ss) u v ≡ true
+  required-first u v p q r = better-ranks n i (s ∷ ss) u v (required-better n i s ss h u v p q r)
+
+-- ---- the groups of the units of `rest`: those allowed and open, and at the two ends those required and those forbidden
+
+abbrev pub undecided : ℕ → ℕ → ℕ → ℕ
+undecided lower upper rest = difference (intersection rest upper) lower
+
+abbrev pub required : ℕ → ℕ → ℕ → ℕ
+required lower upper rest = intersection (intersection rest upper) lower
+
+abbrev pub forbidden : ℕ → ℕ → ℕ
+forbidden upper rest = difference rest upper
+
+-- the group that goes first, and the one that goes last
+abbrev pub firstGroup : Bool → ℕ → ℕ → ℕ → ℕ
+firstGroup last lower upper rest = cond last (forbidden upper rest) (required lower upper rest)
+
+abbrev pub endGroup : Bool → ℕ → ℕ → ℕ → ℕ
+endGroup last lower upper rest = cond last (required lower upper rest) (forbidden upper rest)
+
+module _ (n i : ℕ) (s : Limits) (ss : List Limits) (h : i + length (s ∷ ss) ≡ n + 1) (rest : ℕ) where
+  abbrev bits : (u : ℕ) → Type 0
+  bits u = (bit (intersection rest (s .upper)) u ≡ min (bit rest u) (bit (s .upper) u)) × ((bit (undecided (s .lower) (s .upper) rest) u ≡ bit (intersection rest (s .upper)) u - bit (s .lower) u) × ((bit (required (s .lower) (s .upper) rest) u ≡ min (bit (intersection rest (s .upper)) u) (bit (s .lower) u)) × ((bit (forbidden (s .upper) rest) u ≡ bit rest u - bit (s .upper) u) × ((bit rest u ≤ 1) × ((bit (s .upper) u ≤ 1) × (bit (s .lower) u ≤ 1))))))
+
+  all-bits : (u : ℕ) → bits u
+  all-bits u = (
+    bit-intersection rest (s .upper) u,
+    (
+      bit-difference (intersection rest (s .upper)) (s .lower) u,
+      (
+        bit-intersection (intersection rest (s .upper)) (s .lower) u,
+        (bit-difference rest (s .upper) u, (bit-le rest u, (bit-le (s .upper) u, bit-le (s .lower) u))),
+      ),
+    ),
+  )
+
+  first-part : (last : Bool) → Subset (firstGroup last (s .lower) (s .upper) rest) rest
+  first-part true u = omega (arith, all-bits u)
+  first-part false u = omega (arith, all-bits u)
+
+  first-front : (last : Bool) (v w : ℕ) → bit (firstGroup last (s .lower) (s .upper) rest) v ≡ 1 → bit rest w ≡ 1 → bit (firstGroup last (s .lower) (s .upper) rest) w ≡ 0
+      → toward last (ranksBefore n i (s ∷ ss)) v w ≡ true
+  first-front true v w p q r = allowed-first n i s ss h w v (omega (arith, all-bits w)) (omega (arith, all-bits v))
+  first-front false v w p q r = go (bit-cases (s .upper) w)
+    where
+      go : (bit (s .upper) w ≡ 0) ⊎ (bit (s .upper) w ≡ 1) → ranksBefore n i (s ∷ ss) v w ≡ true
+      go (inl e) = allowed-first n i s ss h v w (omega (arith, all-bits v)) e
+      go (inr e) = required-first n i s ss h v w (omega (arith, all-bits v)) (omega (arith, all-bits v)) (omega (arith, all-bits w))
+
+  first-tied : (last : Bool) (v w : ℕ) → bit (firstGroup last (s .lower) (s .upper) rest) v ≡ 1 → bit (firstGroup last (s .lower) (s .upper) rest) w ≡ 1
+      → toward last (ranksBefore n i (s ∷ ss)) v w ≡ toward last tieOrder v w
+  first-tied true v w p q = forbidden-tied n i s ss h w v (omega (arith, all-bits w)) (omega (arith, all-bits v))
+  first-tied false v w p q =
+      required-tied n i s ss h v w (omega (arith, all-bits v)) (omega (arith, all-bits v)) (omega (arith, all-bits w)) (omega (arith, all-bits w))
+
+  -- what is not in the first group
+  others : Bool → ℕ
+  others last = difference rest (firstGroup last (s .lower) (s .upper) rest)
+
+  far : ℕ
+  far = undecided (s .lower) (s .upper) rest
+
+  far-part : (last : Bool) → Subset far (others last)
+  unfolding far others
+  far-part true u = omega (arith, all-bits u, bit-difference rest (forbidden (s .upper) rest) u)
+  far-part false u = omega (arith, all-bits u, bit-difference rest (required (s .lower) (s .upper) rest) u)
+
+  far-front : (last : Bool) (v w : ℕ) → bit far v ≡ 1 → bit (others last) w ≡ 1 → bit far w ≡ 0 → toward last (ranksBefore n i (s ∷ ss)) v w ≡ true
+  unfolding far others
+  far-front true v w p q r =
+      required-first n i s ss h w v (omega (arith, all-bits w, bit-difference rest (forbidden (s .upper) rest) w)) (omega (arith, all-bits w, bit-difference rest (forbidden (s .upper) rest) w)) (omega (arith, all-bits v))
+  far-front false v w p q r =
+      allowed-first n i s ss h v w (omega (arith, all-bits v)) (omega (arith, all-bits w, bit-difference rest (required (s .lower) (s .upper) rest) w))
+
+  far-open : (last : Bool) (v w : ℕ) → bit far v ≡ 1 → bit far w ≡ 1 → toward last (ranksBefore n i (s ∷ ss)) v w ≡ toward last (ranksBefore n (i + 1) ss) v w
+  unfolding far
+  far-open true v w p q = open-ranked n i s ss h w v (omega (arith, all-bits w)) (omega (arith, all-bits w)) (omega (arith, all-bits v)) (omega (arith, all-bits v))
+  far-open false v w p q = open-ranked n i s ss h v w (omega (arith, all-bits v)) (omega (arith, all-bits v)) (omega (arith, all-bits w)) (omega (arith, all-bits w))
+
+  end-is : (last : Bool) → difference (others last) far ≡ endGroup last (s .lower) (s .upper) rest
+  unfolding far others
+  end-is true =
+      set-ext (difference (others true) far) (required (s .lower) (s .upper) rest)
+      (λ u. omega (arith, all-bits u, bit-difference (others true) far u, bit-difference rest (forbidden (s .upper) rest) u))
+  end-is false =
+      set-ext (difference (others false) far) (forbidden (s .upper) rest)
+      (λ u. omega (arith, all-bits u, bit-difference (others false) far u, bit-difference rest (required (s .lower) (s .upper) rest) u))
+
+  end-tied : (last : Bool) (v w : ℕ) → bit (endGroup last (s .lower) (s .upper) rest) v ≡ 1 → bit (endGroup last (s .lower) (s .upper) rest) w ≡ 1
+      → toward last (ranksBefore n i (s ∷ ss)) v w ≡ toward last tieOrder v w
+  end-tied true v w p q =
+      required-tied n i s ss h w v (omega (arith, all-bits w)) (omega (arith, all-bits w)) (omega (arith, all-bits v)) (omega (arith, all-bits v))
+  end-tied false v w p q = forbidden-tied n i s ss h v w (omega (arith, all-bits v)) (omega (arith, all-bits w))
+
+  module _ (last : Bool) (k : ℕ) where
+    first : ℕ
+    first = firstGroup last (s .lower) (s .upper) rest
+
+    ranked : Ordered (toward last (ranksBefore n i (s ∷ ss)))
+    ranked = toward-ordered last (ranks-ordered n i (s ∷ ss))
+
+    tied : Ordered (toward last tieOrder)
+    tied = toward-ordered last ltb-ordered
+
+    -- all are in the first group
+    pub taken-first : k ≤ size (firstGroup last (s .lower) (s .upper) rest)
+        → taken (toward last (ranksBefore n i (s ∷ ss))) k rest ≡ taken (toward last tieOrder) k (firstGroup last (s .lower) (s .upper) rest)
+    taken-first l =
+        taken-front ranked rest (firstGroup last (s .lower) (s .upper) rest) (first-part last) (first-front last) k l
+        ∙ taken-same ranked tied k (firstGroup last (s .lower) (s .upper) rest) l (first-tied last)
+
+    module _ (l : size (firstGroup last (s .lower) (s .upper) rest) ≤ k) (m : k ≤ size rest) where
+      past-first : taken (toward last (ranksBefore n i (s ∷ ss))) k rest
+          ≡ union (firstGroup last (s .lower) (s .upper) rest) (taken (toward last (ranksBefore n i (s ∷ ss))) (k - size (firstGroup last (s .lower) (s .upper) rest)) (others last))
+      unfolding others
+      past-first = taken-past ranked rest (firstGroup last (s .lower) (s .upper) rest) (first-part last) (first-front last) k l m
+
+      room : k - size (firstGroup last (s .lower) (s .upper) rest) ≤ size (others last)
+      unfolding others
+      room = omega (arith, size-rest ranked rest (firstGroup last (s .lower) (s .upper) rest) (first-part last) (first-front last))
+
+      -- the first group is, and the others are among those left open
+      pub taken-far : k - size (firstGroup last (s .lower) (s .upper) rest) ≤ size (undecided (s .lower) (s .upper) rest)
+          → taken (toward last (ranksBefore n i (s ∷ ss))) k rest
+          ≡ union (firstGroup last (s .lower) (s .upper) rest) (taken (toward last (ranksBefore n (i + 1) ss)) (k - size (firstGroup last (s .lower) (s .upper) rest)) (undecided (s .lower) (s .upper) rest))
+      unfolding far
+      taken-far p =
+          past-first
+          ∙ ap (union (firstGroup last (s .lower) (s .upper) rest))
+          (taken-front ranked (others last) far (far-part last) (far-front last) (k - size (firstGroup last (s .lower) (s .upper) rest)) p
+          ∙ taken-same ranked (toward-ordered last (ranks-ordered n (i + 1) ss)) (k - size (firstGroup last (s .lower) (s .upper) rest)) far p (far-open last))
+
+      end-room : size (undecided (s .lower) (s .upper) rest) ≤ k - size (firstGroup last (s .lower) (s .upper) rest)
+          → k - size (firstGroup last (s .lower) (s .upper) rest) - size (undecided (s .lower) (s .upper) rest) ≤ size (endGroup last (s .lower) (s .upper) rest)
+      unfolding far
+      end-room p = omega (arith, room, size-rest ranked (others last) far (far-part last) (far-front last), ap size (end-is last))
+
+      -- the first group and those left open are, and the others are in the last group
+      pub taken-end : size (undecided (s .lower) (s .upper) rest) ≤ k - size (firstGroup last (s .lower) (s .upper) rest)
+          → taken (toward last (ranksBefore n i (s ∷ ss))) k rest
+          ≡ union (firstGroup last (s .lower) (s .upper) rest) (union (undecided (s .lower) (s .upper) rest) (taken (toward last tieOrder) (k - size (firstGroup last (s .lower) (s .upper) rest) - size (undecided (s .lower) (s .upper) rest)) (endGroup last (s .lower) (s .upper) rest)))
+      unfolding far
+      taken-end p =
+          past-first
+          ∙ ap (union (firstGroup last (s .lower) (s .upper) rest))
+          (taken-past ranked (others last) far (far-part last) (far-front last) (k - size (firstGroup last (s .lower) (s .upper) rest)) p room
+          ∙ ap (λ x. union far (taken (toward last (ranksBefore n i (s ∷ ss))) (k - size (firstGroup last (s .lower) (s .upper) rest) - size far) x)) (end-is last)
+          ∙ ap (union far) (taken-same ranked tied (k - size (firstGroup last (s .lower) (s .upper) rest) - size far) (endGroup last (s .lower) (s .upper) rest) (end-room p) (end-tied last)))
+
+-- ---- by number, one unit after the other
+
+-- the unit that goes first by number goes first in the order of the numbers, or in its mirror image
+first-by-number : (last : Bool) (c u : ℕ) → FirstByNumber last c u → First (toward last tieOrder) (λ x. bit c x ≡ 1) u
+first-by-number false c u f = record { member = f .has; least = λ v b. go v b (decLt v u) }
+  where
+    go : (v : ℕ) → bit c v ≡ 1 → Dec (v < u) → ltb v u ≡ false
+    go v b (yes l) = absurd (omega (arith, f .first v l))
+    go v b (no l) = le-ltb v u (omega arith)
+first-by-number true c u f = record { member = f .has; least = λ v b. go v b (decLt u v) }
+  where
+    go : (v : ℕ) → bit c v ≡ 1 → Dec (u < v) → ltb u v ≡ false
+    go v b (yes l) = absurd (omega (arith, f .first v l))
+    go v b (no l) = le-ltb u v (omega arith)
+
+pub first-has : (last : Bool) (c u : ℕ) → FirstByNumber last c u → bit c u ≡ 1
+first-has last c u f = first-by-number last c u f .member
+
+union-insert : (a b u : ℕ) → union (insert a u) b ≡ union a (insert b u)
+unfolding insert
+union-insert a b u =
+    set-ext (union (union a (2 ^ u)) b) (union a (union b (2 ^ u)))
+    (λ v. omega (arith, bit-union (union a (2 ^ u)) b v, bit-union a (2 ^ u) v, bit-union a (union b (2 ^ u)) v, bit-union b (2 ^ u) v))
+
+-- what has been found with what is still to be found is all
+pub record Found (before : ℕ → ℕ → Bool) (c k found rest left : ℕ) : Type 0 where
+  pub enough : left ≤ size rest
+  pub all : union found (taken before left rest) ≡ taken before k c
+
+pub union-assoc : (a b c : ℕ) → union (union a b) c ≡ union a (union b c)
+union-assoc a b c =
+    set-ext (union (union a b) c) (union a (union b c)) (λ u. omega (arith, bit-union (union a b) c u, bit-union a b u, bit-union a (union b c) u, bit-union b c u))
+
+pub union-empty : (a : ℕ) → union 0 a ≡ a
+union-empty a = set-ext (union 0 a) a (λ u. omega (arith, bit-union 0 a u, bit-empty u))
+
+pub no-units : (a : ℕ) → union a 0 ≡ a
+no-units a = set-ext (union a 0) a (λ u. omega (arith, bit-union a 0 u, bit-empty u))
+
+pub found-none : (before : ℕ → ℕ → Bool) (c k : ℕ) → k ≤ size c → Found before c k 0 c k
+found-none before c k h = record { enough = h; all = union-empty (taken before k c) }
+
+pub found-one : (last : Bool) (c k found rest left u : ℕ) → 0 < left → FirstByNumber last rest u → Found (toward last tieOrder) c k found rest left
+    → Found (toward last tieOrder) c k (insert found u) (remove rest u) (left - 1)
+found-one last c k found rest left u pos f g =
+    record {
+      enough = omega (arith, size-remove rest u (first-by-number last rest u f .member), g .enough);
+      all = union-insert found (taken (toward last tieOrder) (left - 1) (remove rest u)) u ∙ ap (union found) (sym one) ∙ g .all;
+    }
+  where
+    tied : Ordered (toward last tieOrder)
+    tied = toward-ordered last ltb-ordered
+
+    goes : First (toward last tieOrder) (λ x. bit rest x ≡ 1) u
+    goes = first-by-number last rest u f
+
+    sum : suc (left - 1) ≡ left
+    sum = omega arith
+
+    one : taken (toward last tieOrder) left rest ≡ insert (taken (toward last tieOrder) (left - 1) (remove rest u)) u
+    one =
+        chosen-unique tied (taken-chosen tied left rest (g .enough))
+        (subst (λ (m : ℕ). Chosen (toward last tieOrder) m rest (insert (taken (toward last tieOrder) (left - 1) (remove rest u)) u)) sum
+        (one-more tied (left - 1) rest u (taken (toward last tieOrder) (left - 1) (remove rest u)) goes
+        (taken-chosen tied (left - 1) (remove rest u) (omega (arith, size-remove rest u (goes .member), g .enough)))))
+
+pub found-all : (before : ℕ → ℕ → Bool) (c k found rest left : ℕ) → left ≡ 0 → Found before c k found rest left → found ≡ taken before k c
+unfolding taken
+found-all before c k found rest left e g =
+    sym (no-units found)
+    ∙ ap (λ (m : ℕ). union found (taken before m rest)) (sym e) ∙ g .all
+
+-- ---- a look at one step
+
+module _ (last : Bool) (lower upper rest left : ℕ) (m : left ≤ size rest) where
+  nothing-left : (before : ℕ → ℕ → Bool) (found : ℕ) → union found (taken before 0 0) ≡ found
+  unfolding taken
+  nothing-left before found = no-units found
+
+  pub looked-first : left ≤ size (firstGroup last lower upper rest)
+      → Looked last lower upper rest left (record { found = taken (toward last tieOrder) left (firstGroup last lower upper rest); rest = 0; left = 0 })
+  looked-first l =
+      record {
+        enough = omega arith;
+        same = λ n i ss h. nothing-left (toward last (ranksBefore n (i + 1) ss)) _ ∙ sym (taken-first n i (bare lower upper) ss (omega arith) rest last left l);
+      }
+
+  module _ (l : size (firstGroup last lower upper rest) ≤ left) where
+    pub looked-far : left - size (firstGroup last lower upper rest) ≤ size (undecided lower upper rest)
+        → Looked last lower upper rest left (record { found = firstGroup last lower upper rest; rest = undecided lower upper rest; left = left - size (firstGroup last lower upper rest) })
+    looked-far p = record { enough = p; same = λ n i ss h. sym (taken-far n i (bare lower upper) ss (omega arith) rest last left l m p) }
+
+    pub looked-end : size (undecided lower upper rest) ≤ left - size (firstGroup last lower upper rest)
+        → Looked last lower upper rest left (record { found = union (union (firstGroup last lower upper rest) (undecided lower upper rest)) (taken (toward last tieOrder) (left - size (firstGroup last lower upper rest) - size (undecided lower upper rest)) (endGroup last lower upper rest)); rest = 0; left = 0 })
+    looked-end p =
+        record {
+          enough = omega arith;
+          same = λ n i ss h.
+              nothing-left (toward last (ranksBefore n (i + 1) ss)) _
+              ∙ union-assoc (firstGroup last lower upper rest) (undecided lower upper rest) _
+              ∙ sym (taken-end n i (bare lower upper) ss (omega arith) rest last left l m p);
+        }
+
+    -- the last group has as many as are still wanted
+    pub end-has : size (undecided lower upper rest) ≤ left - size (firstGroup last lower upper rest)
+        → left - size (firstGroup last lower upper rest) - size (undecided lower upper rest) ≤ size (endGroup last lower upper rest)
+    end-has p =
+        omega (arith, end-room 1 1 (bare lower upper) [] refl rest last left l m p)
