@@ -3,6 +3,7 @@
 pub mod Agreement
 pub mod Answer
 pub mod Chain
+pub mod Columns
 pub mod Format
 pub mod Numbers
 pub mod Reading

@@ -4,6 +4,7 @@
 // The modules follow the data: numbers out of bytes, the header, the chain of records, one record as a step, and the open sheet,
 // which lends the bytes to those. Nothing here is an open entry of the library.
 pub mod chain;
+pub mod columns;
 pub mod head;
 pub mod numbers;
 pub mod open;
