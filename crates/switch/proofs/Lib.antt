@@ -1,7 +1,8 @@
 -- That no plan has fewer switches than the one handed out, in this order: `Stands` (what is used of a ranking, and of the set taken in a step), `Totals`,
 -- `Exchange`, `Improve` and `Optimal` (a plan of such sets is the best), `Orders`, `Chosen`, `Ranks` and `Greedy` (FindSupport's sets are such).
 -- That the functions give that plan: `Picking` and `Scanning` (the first units in rank, by a scan of the steps), `Supporting` (the set of a step) and
--- `Planning` (the plan).
+-- `Planning` (the plan); `Checking` serves the check of a plan made elsewhere.
+pub mod Checking
 pub mod Chosen
 pub mod Exchange
 pub mod Greedy

@@ -59,7 +59,7 @@ module _ where
   columns-length (l ∷ ls) (u ∷ us) (m ∷ ms) [] p q r = absurd (omega arith)
   columns-length (l ∷ ls) (u ∷ us) (m ∷ ms) (g ∷ gs) p q r = ap suc (columns-length ls us ms gs (omega arith) (omega arith) (omega arith))
 
-  columns-at : (lower upper least greatest : List ℕ) (j : ℕ) → length lower ≡ length upper → length lower ≡ length least → length lower ≡ length greatest → j < length lower
+  pub columns-at : (lower upper least greatest : List ℕ) (j : ℕ) → length lower ≡ length upper → length lower ≡ length least → length lower ≡ length greatest → j < length lower
       → drop j (columns lower upper least greatest) ≡ limits (getD lower j 0) (getD upper j 0) (getD least j 0) (getD greatest j 0) ∷ drop (suc j) (columns lower upper least greatest)
   unfolding columns
   columns-at [] us ms gs j p q r h = absurd (omega arith)

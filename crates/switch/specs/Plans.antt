@@ -23,6 +23,13 @@ below (suc k) = below k ++ (k ∷ [])
 unfoldable pub allows : Limits → ℕ → Bool
 allows s x = isSubset (s .lower) x && isSubset x (s .upper) && leb (s .least) (size x) && leb (size x) (s .greatest)
 
+-- the test of `FeasiblePlan`
+unfoldable pub isFeasible : List Limits → List ℕ → Bool
+isFeasible [] [] = true
+isFeasible [] (x ∷ xs) = false
+isFeasible (s ∷ ss) [] = false
+isFeasible (s ∷ ss) (x ∷ xs) = allows s x && isFeasible ss xs
+
 -- every plan with one of the sets first and one of the plans after it
 unfoldable pub prefixed : List ℕ → List (List ℕ) → List (List ℕ)
 prefixed [] plans = []
