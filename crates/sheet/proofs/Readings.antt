@@ -8,6 +8,7 @@ use native.Mathlib.Omega.{arith}
 use lib.Dec.{eqb}
 use lib.ListN.{length, length-map, length-append}
 use borrow.Author.Tests.{ltb-false, eqb-false, eqb-true, not-false}
+use Rattle.units.specs.Limits.{hasFeasible}
 use Rattle.units.specs.Sets.{hasUnitFrom}
 use Rattle.sheet.specs.declared.Header.{Header}
 use Rattle.sheet.specs.declared.Step.{Step}
@@ -174,6 +175,25 @@ reading-walkable s {c} e =
       steps = following-steps (suc (recordsOf s)) s 0 ∙ ap (stepsFrom s 0) (sym many);
       few = omega (arith, many, kept .few, sound .few-records);
     })
+
+-- its steps have no fault: the upper set has no unit from d up, and some set is feasible
+abbrev pub Faultless : ℕ → List Step → Type 0
+Faultless d [] = Unit {0}
+Faultless d (x ∷ xs) =
+    (hasUnitFrom (x .upper) d ≡ false) × ((hasFeasible (x .lower) (x .upper) (x .least) (x .greatest) ≡ true) × Faultless d xs)
+
+steps-faultless : {A : Type 0} (d i : ℕ) (xs : List Step) (a : Answer A) {w : A} → unless (stepsCauses d i xs) a ≡ Given w → Faultless d xs
+unfolding stepsCauses
+steps-faultless d i [] a e = tt
+steps-faultless d i (x ∷ xs) a e =
+    let foreign = passed-first _ _ _ e in
+    let infeasible = passed-first _ _ _ (foreign .1) in
+    (foreign .0, (not-false _ (infeasible .0), steps-faultless d (i + 1) xs a (infeasible .1)))
+
+pub reading-faultless : (s : List ℕ) {c : Campaign} → readingOf s ≡ Given c → Faultless (unitsOf s) (stepsOf s)
+reading-faultless s e =
+    let past = unless-given (formCauses s ++ headerCauses s) _ (sym (readCauses-staged s (Given (campaignOf s))) ∙ e) in
+    steps-faultless (unitsOf s) 1 (stepsOf s) _ (unless-given (linkCauses (recordsOf s) [] 0 (recordsOn s)) _ past)
 
 -- ---- the numbers of refusal that the reader can give
 
