@@ -1,11 +1,18 @@
 -- What each entry replies and leaves in the lent memory, for any input.
 use Prim.Native.Nat.{ℕ}
-use mathlib.Core.List.{List, [], _∷_, _++_}
-use lib.Dec.{ltb}
+use mathlib.Core.Bool.{Bool, cond, not, _&&_}
+use mathlib.Core.List.{List, [], _∷_, _++_, map}
+use lib.Dec.{ltb, leb, eqb}
 use lib.ListN.{length, drop}
 use Rattle.sheet.specs.declared.Step.{Step}
 use Rattle.sheet.specs.Answer.{Answer, Refused, Given, Cause, cause, unless}
+use Rattle.sheet.specs.Format.{unitsOf, boundOf, startOf}
 use Rattle.sheet.specs.Reading.{stepsOf, readCauses, Campaign, campaignOf}
+use Rattle.switch.specs.Columns.{limits}
+use Rattle.switch.specs.Plans.{isFeasible, fewest}
+use Rattle.switch.specs.Support.{findSupport}
+use Rattle.switch.specs.Switch.{Limits, total}
+use Rattle.warm.specs.declared.Reply.{Reply}
 use Rattle.warm.specs.declared.StepsReply.{StepsReply}
 
 -- refusal 8: a lent output has fewer places than there are steps
@@ -35,3 +42,75 @@ stepsWritten (Given c) out = c .steps ++ drop (length (c .steps)) out
 -- the reply, and what the list holds afterwards
 unfoldable pub warmSteps : List ℕ → List Step → StepsReply × List Step
 warmSteps s out = (stepsReply (stepsAnswer s (length out)), stepsWritten (stepsAnswer s (length out)) out)
+
+-- ---- what the planner sees of a sheet
+
+-- a step without its tag
+abbrev pub limitsOf : Step → Limits
+limitsOf x = limits (x .lower) (x .upper) (x .least) (x .greatest)
+
+-- the steps of a sheet
+abbrev pub limitsOn : List ℕ → List Limits
+limitsOn s = map limitsOf (stepsOf s)
+
+-- the fewest switches of any feasible plan
+unfoldable pub fewestOn : List ℕ → ℕ
+fewestOn s = fewest (unitsOf s) (startOf s) (limitsOn s)
+
+-- the plan that FindSupport gives
+unfoldable pub supportOn : List ℕ → List ℕ
+supportOn s = findSupport (startOf s) (limitsOn s)
+
+-- refusal 9: the fewest switches exceed the bound
+abbrev pub boundCauses : List ℕ → List Cause
+boundCauses s = cause (ltb (boundOf s) (fewestOn s)) 9 (fewestOn s) ∷ []
+
+-- the first places of an output hold the words, and the others what they held
+abbrev pub written : List ℕ → List ℕ → List ℕ
+written words out = words ++ drop (length words) out
+
+-- a refusal, and a reply
+abbrev pub refusedReply : ℕ → ℕ → Reply
+refusedReply n p = record { refusal = n; place = p; total = 0; accepted = 0 }
+
+abbrev pub fullReply : ℕ → ℕ → Reply
+fullReply total accepted = record { refusal = 0; place = 0; total = total; accepted = accepted }
+
+-- ---- the plan
+
+-- refusals 1 to 9, where the output has that many places
+unfoldable pub planRefusals : List ℕ → ℕ → List Cause
+planRefusals s places = readCauses s ++ placesCauses s places ++ boundCauses s
+
+-- one refusal of 1 to 9, or the plan
+abbrev pub planAnswer : List ℕ → ℕ → Answer (List ℕ)
+planAnswer s places = unless (planRefusals s places) (Given (supportOn s))
+
+-- the reply with the plan's total, and the output with the plan; a refusal leaves it as it was
+unfoldable pub planned : ℕ → List ℕ → Answer (List ℕ) → Reply × List ℕ
+planned start out (Refused n p) = (refusedReply n p, out)
+planned start out (Given plan) = (fullReply (total start plan) 0, written plan out)
+
+unfoldable pub warmPlan : List ℕ → List ℕ → Reply × List ℕ
+warmPlan s out = planned (startOf s) out (planAnswer s (length out))
+
+-- ---- the verdict
+
+-- refusals 1 to 7 and 10: the plan has not one word for each step
+unfoldable pub verdictRefusals : List ℕ → ℕ → List Cause
+verdictRefusals s words = readCauses s ++ (cause (not (eqb words (length (stepsOf s)))) 10 (length (stepsOf s)) ∷ [])
+
+-- 1 if the plan meets the sheet, that is, is feasible and within the bound; else 0
+unfoldable pub accepts : List ℕ → List ℕ → ℕ
+accepts s plan = cond (isFeasible (limitsOn s) plan && leb (total (startOf s) plan) (boundOf s)) 1 0
+
+-- one refusal, or yes or no and the plan's total
+abbrev pub verdictAnswer : List ℕ → List ℕ → Answer Reply
+verdictAnswer s plan = unless (verdictRefusals s (length plan)) (Given (fullReply (total (startOf s) plan) (accepts s plan)))
+
+unfoldable pub judged : Answer Reply → Reply
+judged (Refused n p) = refusedReply n p
+judged (Given r) = r
+
+unfoldable pub warmVerdict : List ℕ → List ℕ → Reply
+warmVerdict s plan = judged (verdictAnswer s plan)

@@ -1,5 +1,7 @@
 // The entries that buyers call, over lent bytes and lent buffers. Each has no `requires`, and one `ensures` that equates its reply and
 // all lent memory with a definition of specs/Entries.antt, for any input. docs/FORMAT.md has the sheet and the refusal table.
+mod planning;
+
 use sheet::ReadAnswer;
 use sheet::Step;
 ghost use mathlib.Core.Path.{_≡_};
@@ -8,7 +10,7 @@ ghost use Prim.Native.Nat.{_≤_};
 ghost use lib.ListN.{length, drop};
 ghost use Rattle.sheet.specs.Answer.{Refused};
 ghost use Rattle.sheet.specs.Chain.{Inside, stepsFrom};
-ghost use Rattle.warm.specs.Entries.{stepsAnswer, stepsReply, warmSteps};
+ghost use Rattle.warm.specs.Entries.{stepsAnswer, stepsReply, warmSteps, refusedReply};
 
 // What `warm_steps` replies. Where refusal is not 0, it is a refusal with its place, and the other numbers are 0.
 #[repr(C)]
@@ -20,6 +22,27 @@ pub struct StepsReply {
     pub bound: u32,
     pub reserved: u32,
     pub start: u64,
+}
+
+// What the other entries reply. Where refusal is not 0, it is a refusal with its place, and the other numbers are 0.
+#[repr(C)]
+pub struct Reply {
+    pub refusal: u32,
+    pub place: u32,
+    pub total: u32,
+    pub accepted: u32,
+}
+
+// A refusal.
+pub(crate) fn refused(number: u32, place: u32) -> Reply
+    ensures { λ r. ⌜ r ≡ refusedReply number place ⌝ }
+{
+    Reply {
+        refusal: number,
+        place,
+        total: 0,
+        accepted: 0,
+    }
 }
 
 // A refusal: no step is replied.
