@@ -110,3 +110,7 @@ module _ (s : List ℕ) {x : Summary} (e : summaryRead s ≡ Given x) where
     where
       mapped : (number : Step → ℕ) → length (map (λ y. y .lower) (stepsOf s)) ≡ length (map number (stepsOf s))
       mapped number = length-map (stepsOf s) (λ y. y .lower) ∙ sym (length-map (stepsOf s) number)
+
+  -- a column is as long as a plan with a word for each step
+  pub columns-long : (m : ℕ) → m ≡ x .steps → (number : Step → ℕ) → length (map number (stepsOf s)) ≡ m
+  columns-long m h number = length-map (stepsOf s) number ∙ many-steps ∙ sym h

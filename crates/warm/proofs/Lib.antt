@@ -7,4 +7,5 @@ pub mod Examples
 mod Filling
 mod Plans
 pub mod Steps
+mod Verdicts
 mod Walk

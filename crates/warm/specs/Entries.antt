@@ -96,9 +96,13 @@ warmPlan s out = planned (startOf s) out (planAnswer s (length out))
 
 -- ---- the verdict
 
--- refusals 1 to 7 and 10: the plan has not one word for each step
+-- refusal 10: the plan has not one word for each step
+abbrev pub wordsCauses : List ℕ → ℕ → List Cause
+wordsCauses s words = cause (not (eqb words (length (stepsOf s)))) 10 (length (stepsOf s)) ∷ []
+
+-- refusals 1 to 7 and 10, where the plan has that many words
 unfoldable pub verdictRefusals : List ℕ → ℕ → List Cause
-verdictRefusals s words = readCauses s ++ (cause (not (eqb words (length (stepsOf s)))) 10 (length (stepsOf s)) ∷ [])
+verdictRefusals s words = readCauses s ++ wordsCauses s words
 
 -- 1 if the plan meets the sheet, that is, is feasible and within the bound; else 0
 unfoldable pub accepts : List ℕ → List ℕ → ℕ
