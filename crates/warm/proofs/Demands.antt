@@ -3,11 +3,11 @@
 -- Demand 1. For any bytes and any lent list, an entry gives a full reply or one refusal of a fixed list with its place. A refusal is given
 -- exactly when its cause holds and no earlier one of the table does (docs/FORMAT.md), and it leaves the lent list as it came. The table is the
 -- list of causes that stands in the statement: `stepsRefusals`, and `readCauses` in it, are one line for each cause, in the order of the checks.
-use mathlib.Core.Path.{_≡_, sym, ap, ap₂, _∙_}
-use mathlib.Core.Logic.{_↔_}
+use mathlib.Core.Path.{_≡_, refl, sym, ap, _∙_}
+use mathlib.Core.Logic.{_↔_, _⊎_, inl, inr}
 use mathlib.Core.Bool.{true}
 use mathlib.Core.List.{List, [], _∷_, _++_, map}
-use Prim.Native.Nat.{ℕ, suc, _+_, _≤_}
+use Prim.Native.Nat.{ℕ, suc, _+_, _≤_, _<_}
 use native.Mathlib.Omega.{arith}
 use lib.ListN.{length, drop}
 use Rattle.units.specs.Limits.{Feasible, hasFeasible}
@@ -16,13 +16,17 @@ use Rattle.sheet.specs.declared.Step.{Step}
 use Rattle.sheet.specs.Agreement.{Agree, untagged}
 use Rattle.sheet.specs.Answer.{Refused, Given, unless}
 use Rattle.sheet.specs.Chain.{following, chainOf, linkCauses}
+use Rattle.sheet.specs.Format.{boundOf, startOf}
 use Rattle.sheet.specs.Reading.{stepsOf, readCauses, campaignOf}
 use Rattle.sheet.proofs.Agreements.{same-causes, same-units, same-bound, same-start, same-untagged}
 use Rattle.sheet.proofs.Answers.{first-decided, first-refuses, none-holds, numbered-first, numbered-append, Numbered}
 use Rattle.sheet.proofs.Chains.{chain-is-long-enough}
 use Rattle.sheet.proofs.Readings.{numbered-read}
-use Rattle.warm.specs.Entries.{placesCauses, stepsRefusals, stepsReply, stepsWritten, warmSteps}
-use Rattle.warm.specs.Statements.{Exact, Alike}
+use Rattle.switch.specs.Switch.{FeasiblePlan, total}
+use Rattle.warm.specs.Entries.{placesCauses, stepsRefusals, stepsReply, stepsWritten, warmSteps, limitsOn, fewestOn, supportOn, boundCauses, written, refusedReply, fullReply, planRefusals, planned, warmPlan, wordsCauses, verdictRefusals, accepts, judged, warmVerdict}
+use Rattle.warm.specs.Statements.{Exact, Alike, Passes, Meets}
+use Rattle.warm.proofs.Plans.{passed, plan-fewest, plan-length, over-bound, in-bound, plan-open}
+use Rattle.warm.proofs.Verdicts.{verdict-given, accepts-exactly, turned-down}
 use Rattle.warm.proofs.Steps.{alike-answer, alike-reply, alike-written}
 
 -- ---- demand 1: the steps
@@ -47,6 +51,82 @@ demand-1-steps s out =
     numbers =
         numbered-append StepsNumber (readCauses s) (placesCauses s (length out)) (numbered-read StepsNumber (λ n l h. (l, omega arith)) s)
         ((omega arith, omega arith), tt)
+
+-- ---- demand 1: the plan and the verdict
+
+-- refusals 1 to 9; refusals 1 to 7 and 10
+abbrev pub PlanNumber : ℕ → Type 0
+PlanNumber n = (1 ≤ n) × (n ≤ 9)
+
+abbrev pub VerdictNumber : ℕ → Type 0
+VerdictNumber n = ((1 ≤ n) × (n ≤ 7)) ⊎ (n ≡ 10)
+
+pub demand-1-plan : (s out : List ℕ)
+    → Exact (planRefusals s (length out)) PlanNumber (warmPlan s out) (λ n p. (refusedReply n p, out))
+      (fullReply (total (startOf s) (supportOn s)) 0, written (supportOn s) out)
+unfolding warmPlan planned planRefusals Numbered
+demand-1-plan s out =
+    record {
+      decided = first-decided (planRefusals s (length out));
+      numbered = λ n p f. numbered-first PlanNumber f numbers;
+      refusals = λ n p f. ap (planned (startOf s) out) (sym (first-refuses f (Given (supportOn s))));
+      replies = λ none. ap (planned (startOf s) out) (none-holds (planRefusals s (length out)) (Given (supportOn s)) none) }
+  where
+    numbers : Numbered PlanNumber (planRefusals s (length out))
+    numbers =
+        numbered-append PlanNumber (readCauses s ++ placesCauses s (length out)) (boundCauses s)
+        (numbered-append PlanNumber (readCauses s) (placesCauses s (length out)) (numbered-read PlanNumber (λ n l h. (l, omega arith)) s) ((omega arith, omega arith), tt))
+        ((omega arith, omega arith), tt)
+
+pub demand-1-verdict : (s plan : List ℕ)
+    → Exact (verdictRefusals s (length plan)) VerdictNumber (warmVerdict s plan) refusedReply (fullReply (total (startOf s) plan) (accepts s plan))
+unfolding warmVerdict judged verdictRefusals Numbered
+demand-1-verdict s plan =
+    record {
+      decided = first-decided (verdictRefusals s (length plan));
+      numbered = λ n p f. numbered-first VerdictNumber f numbers;
+      refusals = λ n p f. ap judged (sym (first-refuses f (Given (fullReply (total (startOf s) plan) (accepts s plan)))));
+      replies = λ none. ap judged (none-holds (verdictRefusals s (length plan)) (Given (fullReply (total (startOf s) plan) (accepts s plan))) none) }
+  where
+    numbers : Numbered VerdictNumber (verdictRefusals s (length plan))
+    numbers = numbered-append VerdictNumber (readCauses s) (wordsCauses s (length plan)) (numbered-read VerdictNumber (λ n l h. inl (l, h)) s) (inr refl, tt)
+
+-- ---- demand 2: a plan handed in beside a sheet that passes the checks
+
+-- With one set for each step it is accepted if it meets the sheet, and turned down if not. Its total is given either way.
+pub demand-2-verdict : (s plan : List ℕ) → Passes s → length plan ≡ length (stepsOf s)
+    → (warmVerdict s plan ≡ fullReply (total (startOf s) plan) (accepts s plan)) × ((Meets s plan → accepts s plan ≡ 1) × ((Meets s plan → ⊥) → accepts s plan ≡ 0))
+unfolding warmVerdict judged campaignOf
+demand-2-verdict s plan ok long =
+    (sym (ap judged (verdict-given s plan (passed s ok) long)), (accepts-exactly s plan .1, turned-down s plan))
+
+-- The plan that is handed out is the one that FindSupport gives, and the verdict accepts it.
+pub demand-2-plan : (s out : List ℕ) → Passes s → length (stepsOf s) ≤ length out → fewestOn s ≤ boundOf s
+    → (warmPlan s out ≡ (fullReply (total (startOf s) (supportOn s)) 0, written (supportOn s) out)) × (warmVerdict s (supportOn s) ≡ fullReply (total (startOf s) (supportOn s)) 1)
+unfolding warmPlan planned campaignOf
+demand-2-plan s out ok room bound =
+    let e = passed s ok in
+    let best = plan-fewest s e in
+    (ap (planned (startOf s) out) (sym (in-bound s e (omega (arith, best .1 .0)) (Given (supportOn s)) ∙ plan-open s (length out) e room)),
+    demand-2-verdict s (supportOn s) ok (plan-length s) .0 ∙ ap (fullReply (total (startOf s) (supportOn s))) (accepts-exactly s (supportOn s) .1 (best .0, omega (arith, best .1 .0))))
+
+-- ---- demand 3: any sheet that passes the checks, with outputs that have a place for every step
+
+-- FindSupport's plan meets all set and number limits, and every other plan that meets them has at least as many switches, counted from the start set.
+pub demand-3-fewest : (s : List ℕ) → Passes s
+    → FeasiblePlan (limitsOn s) (supportOn s) × ((q : List ℕ) → FeasiblePlan (limitsOn s) q → total (startOf s) (supportOn s) ≤ total (startOf s) q)
+demand-3-fewest s ok = let best = plan-fewest s (passed s ok) in (best .0, λ q f. omega (arith, best .1 .0, best .1 .1 q f))
+
+-- The plan is refused for the bound exactly when that number is above it, and the refusal's place is that number; else it is the total, and the plan
+-- written out is FindSupport's.
+pub demand-3-plan : (s out : List ℕ) → Passes s → length (stepsOf s) ≤ length out
+    → (boundOf s < total (startOf s) (supportOn s) → warmPlan s out ≡ (refusedReply 9 (total (startOf s) (supportOn s)), out))
+    × (total (startOf s) (supportOn s) ≤ boundOf s → warmPlan s out ≡ (fullReply (total (startOf s) (supportOn s)) 0, written (supportOn s) out))
+unfolding warmPlan planned campaignOf
+demand-3-plan s out ok room =
+    let e = passed s ok in
+    (λ h. ap (planned (startOf s) out) (sym (over-bound s e h ∙ plan-open s (length out) e room)),
+    λ h. ap (planned (startOf s) out) (sym (in-bound s e h (Given (supportOn s)) ∙ plan-open s (length out) e room)))
 
 -- what row 7 of the table tests: it holds of a step exactly if no set is feasible there
 pub a-feasible-set : (x : Step) → hasFeasible (x .lower) (x .upper) (x .least) (x .greatest) ≡ true

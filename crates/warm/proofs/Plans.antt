@@ -15,13 +15,14 @@ use Rattle.sheet.specs.Answer.{Answer, Refused, Given, unless}
 use Rattle.sheet.specs.Format.{unitsOf, boundOf, startOf}
 use Rattle.sheet.specs.Reading.{stepsOf, readCauses, campaignOf}
 use Rattle.sheet.specs.Told.{summaryOf, summaryRead}
-use Rattle.sheet.proofs.Answers.{refused-by, passed-by, none-left, unless-append, all-passed, refused-whatever}
+use Rattle.sheet.proofs.Answers.{refused-by, passed-by, none-left, unless-append, all-passed, refused-whatever, none-holds}
 use Rattle.sheet.proofs.Readings.{Faultless}
 use Rattle.switch.specs.Support.{supportFrom, findSupport}
 use Rattle.switch.specs.Switch.{Limits, FeasiblePlan, total}
 use Rattle.switch.proofs.AllPlans.{Below}
 use Rattle.switch.proofs.Fewest.{support-fewest}
 use Rattle.warm.specs.Entries.{limitsOf, limitsOn, fewestOn, supportOn, boundCauses, placesCauses, written, planRefusals, planAnswer, planned}
+use Rattle.warm.specs.Statements.{Passes}
 use Rattle.warm.proofs.Decoded.{many-steps, faultless, satisfiable}
 
 -- ---- the plan
@@ -68,6 +69,10 @@ module _ (s : List ℕ) {x : Summary} (e : summaryRead s ≡ Given x) where
 
   pub was-read : {A : Type 0} (a : Answer A) → a ≡ unless (readCauses s) a
   was-read a = sym (all-passed (readCauses s) _ e a)
+
+-- a sheet that passes the checks was read
+pub passed : (s : List ℕ) → Passes s → summaryRead s ≡ Given (summaryOf (campaignOf s))
+passed s ok = none-holds (readCauses s) (Given (summaryOf (campaignOf s))) ok
 
 -- ---- the answer, by its stages
 

@@ -1,19 +1,24 @@
--- Laws on the answer of `warm_verdict`, by its stages.
-use mathlib.Core.Path.{_≡_, sym, ap, _∙_}
-use mathlib.Core.Bool.{not}
+-- Laws on the answer of `warm_verdict`, by its stages, and that it accepts a plan exactly if that meets the sheet.
+use mathlib.Core.Path.{_≡_, refl, sym, ap, _∙_}
+use mathlib.Core.Logic.{_↔_}
+use mathlib.Core.Bool.{Bool, true, false, cond, not, _&&_, false≢true}
 use mathlib.Core.List.{List, [], _∷_}
-use Prim.Native.Nat.{ℕ}
+use Prim.Native.Nat.{ℕ, zero, suc, _≤_}
 use native.Mathlib.Omega.{arith}
+use lib.Dec.{leb}
 use lib.ListN.{length}
-use borrow.Author.Tests.{eq-eqb, ne-eqb}
+use borrow.Author.Tests.{eq-eqb, ne-eqb, leb-true, le-leb}
 use Rattle.sheet.specs.declared.Summary.{Summary}
 use Rattle.sheet.specs.Answer.{Answer, Refused, Given, Cause, cause, unless}
-use Rattle.sheet.specs.Format.{startOf}
+use Rattle.sheet.specs.Format.{boundOf, startOf}
 use Rattle.sheet.specs.Reading.{stepsOf, readCauses, campaignOf}
 use Rattle.sheet.specs.Told.{summaryOf, summaryRead}
 use Rattle.sheet.proofs.Answers.{refused-by, passed-by, none-left, unless-append, refused-whatever}
-use Rattle.switch.specs.Switch.{total}
-use Rattle.warm.specs.Entries.{fullReply, accepts, wordsCauses, verdictRefusals, verdictAnswer}
+use Rattle.switch.specs.Plans.{allows, isFeasible}
+use Rattle.switch.specs.Switch.{Limits, FeasiblePlan, total}
+use Rattle.switch.proofs.AllPlans.{allows-exactly}
+use Rattle.warm.specs.Entries.{limitsOn, fullReply, accepts, wordsCauses, verdictRefusals, verdictAnswer}
+use Rattle.warm.specs.Statements.{Meets}
 use Rattle.warm.proofs.Decoded.{many-steps}
 use Rattle.warm.proofs.Plans.{was-read}
 
@@ -35,3 +40,53 @@ module _ (s plan : List ℕ) where
     verdict-given h =
         passed-by _ _ _ (ap not (eq-eqb (length plan) (length (stepsOf s)) (h ∙ sym (many-steps s e)))) (none-left _)
         ∙ was-read s e _ ∙ sym verdict-staged
+
+-- ---- what is accepted
+
+both-true : (a b : Bool) → (a && b) ≡ true ↔ ((a ≡ true) × (b ≡ true))
+both-true true b = (λ h. (refl, h), λ h. h .1)
+both-true false b = (λ h. absurd (false≢true h), λ h. h .0)
+
+-- the test of a plan holds exactly if it is feasible
+feasible-exactly : (ss : List Limits) (plan : List ℕ) → isFeasible ss plan ≡ true ↔ FeasiblePlan ss plan
+unfolding isFeasible
+feasible-exactly [] [] = (λ h. tt, λ h. refl)
+feasible-exactly [] (x ∷ xs) = (λ h. absurd (false≢true h), λ h. absurd h)
+feasible-exactly (s ∷ ss) [] = (λ h. absurd (false≢true h), λ h. absurd h)
+feasible-exactly (s ∷ ss) (x ∷ xs) =
+    let here = allows-exactly s x in
+    let rest = feasible-exactly ss xs in
+    let both = both-true (allows s x) (isFeasible ss xs) in
+    (λ h. (here .0 (both .0 h .0), rest .0 (both .0 h .1)), λ h. both .1 (here .1 (h .0), rest .1 (h .1)))
+
+-- yes or no
+accepts-digit : (s plan : List ℕ) → accepts s plan ≤ 1
+unfolding accepts
+accepts-digit s plan = go (isFeasible (limitsOn s) plan && leb (total (startOf s) plan) (boundOf s))
+  where
+    go : (t : Bool) → cond t 1 0 ≤ 1
+    go true = omega arith
+    go false = omega arith
+
+-- a plan is accepted exactly if it meets the sheet
+pub accepts-exactly : (s plan : List ℕ) → accepts s plan ≡ 1 ↔ Meets s plan
+unfolding accepts
+accepts-exactly s plan =
+    let both = both-true (isFeasible (limitsOn s) plan) (leb (total (startOf s) plan) (boundOf s)) in
+    let feasible = feasible-exactly (limitsOn s) plan in
+    (λ h. let t = both .0 (one _ h) in (feasible .0 (t .0), leb-true _ _ (t .1)), λ m. ap chosen (both .1 (feasible .1 (m .0), le-leb _ _ (m .1))))
+  where
+    chosen : Bool → ℕ
+    chosen t = cond t 1 0
+
+    one : (t : Bool) → chosen t ≡ 1 → t ≡ true
+    one true h = refl
+    one false h = absurd (omega arith)
+
+-- and else turned down
+pub turned-down : (s plan : List ℕ) → (Meets s plan → ⊥) → accepts s plan ≡ 0
+turned-down s plan misses = go (accepts s plan) refl (accepts-digit s plan)
+  where
+    go : (n : ℕ) → accepts s plan ≡ n → n ≤ 1 → accepts s plan ≡ 0
+    go zero e h = e
+    go (suc n) e h = absurd (misses (accepts-exactly s plan .0 (omega arith)))
