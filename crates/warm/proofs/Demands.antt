@@ -7,7 +7,7 @@ use mathlib.Core.Path.{_≡_, refl, sym, ap, _∙_}
 use mathlib.Core.Logic.{_↔_, _⊎_, inl, inr}
 use mathlib.Core.Bool.{true}
 use mathlib.Core.List.{List, [], _∷_, _++_, map}
-use Prim.Native.Nat.{ℕ, suc, _+_, _≤_, _<_}
+use Prim.Native.Nat.{ℕ, suc, _+_, _≤_, _<_, min}
 use native.Mathlib.Omega.{arith}
 use lib.ListN.{length, drop}
 use Rattle.units.specs.Limits.{Feasible, hasFeasible}
@@ -23,9 +23,11 @@ use Rattle.sheet.proofs.Answers.{first-decided, first-refuses, none-holds, numb
 use Rattle.sheet.proofs.Chains.{chain-is-long-enough}
 use Rattle.sheet.proofs.Readings.{numbered-read}
 use Rattle.switch.specs.Switch.{FeasiblePlan, total}
-use Rattle.warm.specs.Entries.{placesCauses, stepsRefusals, stepsReply, stepsWritten, warmSteps, limitsOn, fewestOn, supportOn, boundCauses, written, refusedReply, fullReply, planRefusals, planned, warmPlan, wordsCauses, verdictRefusals, accepts, judged, warmVerdict}
-use Rattle.warm.specs.Statements.{Exact, Alike, Passes, Meets}
+use Rattle.warm.specs.Entries.{placesCauses, stepsRefusals, stepsReply, stepsWritten, warmSteps, limitsOn, fewestOn, supportOn, boundCauses, written, refusedReply, fullReply, planRefusals, planned, warmPlan, onWords, offWords, charted, warmChart, wordsCauses, verdictRefusals, accepts, judged, warmVerdict}
+use Rattle.warm.specs.Statements.{Exact, Alike, Passes, Meets, Heart}
 use Rattle.warm.proofs.Plans.{passed, plan-fewest, plan-length, over-bound, in-bound, plan-open}
+use Rattle.warm.proofs.Charts.{on-length, off-length, on-cells, off-cells, no-others}
+use Rattle.warm.proofs.Likeness.{alike-plan, alike-chart, alike-verdict}
 use Rattle.warm.proofs.Verdicts.{verdict-given, accepts-exactly, turned-down}
 use Rattle.warm.proofs.Steps.{alike-answer, alike-reply, alike-written}
 
@@ -61,22 +63,23 @@ PlanNumber n = (1 ≤ n) × (n ≤ 9)
 abbrev pub VerdictNumber : ℕ → Type 0
 VerdictNumber n = ((1 ≤ n) × (n ≤ 7)) ⊎ (n ≡ 10)
 
+plan-numbers : (s : List ℕ) (places : ℕ) → Numbered PlanNumber (planRefusals s places)
+unfolding planRefusals Numbered
+plan-numbers s places =
+    numbered-append PlanNumber (readCauses s ++ placesCauses s places) (boundCauses s)
+    (numbered-append PlanNumber (readCauses s) (placesCauses s places) (numbered-read PlanNumber (λ n l h. (l, omega arith)) s) ((omega arith, omega arith), tt))
+    ((omega arith, omega arith), tt)
+
 pub demand-1-plan : (s out : List ℕ)
     → Exact (planRefusals s (length out)) PlanNumber (warmPlan s out) (λ n p. (refusedReply n p, out))
       (fullReply (total (startOf s) (supportOn s)) 0, written (supportOn s) out)
-unfolding warmPlan planned planRefusals Numbered
+unfolding warmPlan planned
 demand-1-plan s out =
     record {
       decided = first-decided (planRefusals s (length out));
-      numbered = λ n p f. numbered-first PlanNumber f numbers;
+      numbered = λ n p f. numbered-first PlanNumber f (plan-numbers s (length out));
       refusals = λ n p f. ap (planned (startOf s) out) (sym (first-refuses f (Given (supportOn s))));
       replies = λ none. ap (planned (startOf s) out) (none-holds (planRefusals s (length out)) (Given (supportOn s)) none) }
-  where
-    numbers : Numbered PlanNumber (planRefusals s (length out))
-    numbers =
-        numbered-append PlanNumber (readCauses s ++ placesCauses s (length out)) (boundCauses s)
-        (numbered-append PlanNumber (readCauses s) (placesCauses s (length out)) (numbered-read PlanNumber (λ n l h. (l, omega arith)) s) ((omega arith, omega arith), tt))
-        ((omega arith, omega arith), tt)
 
 pub demand-1-verdict : (s plan : List ℕ)
     → Exact (verdictRefusals s (length plan)) VerdictNumber (warmVerdict s plan) refusedReply (fullReply (total (startOf s) plan) (accepts s plan))
@@ -90,6 +93,20 @@ demand-1-verdict s plan =
   where
     numbers : Numbered VerdictNumber (verdictRefusals s (length plan))
     numbers = numbered-append VerdictNumber (readCauses s) (wordsCauses s (length plan)) (numbered-read VerdictNumber (λ n l h. inl (l, h)) s) (inr refl, tt)
+
+-- the chart has the plan's refusals, for the shorter of its outputs
+pub demand-1-chart : (s on off : List ℕ)
+    → Exact (planRefusals s (min (length on) (length off))) PlanNumber (warmChart s on off) (λ n p. (refusedReply n p, (on, off)))
+      (fullReply (total (startOf s) (supportOn s)) 0, (written (onWords s) on, written (offWords s) off))
+unfolding warmChart charted
+demand-1-chart s on off =
+    let causes = planRefusals s (min (length on) (length off)) in
+    let drawn = charted (startOf s) (onWords s) (offWords s) on off in
+    record {
+      decided = first-decided causes;
+      numbered = λ n p f. numbered-first PlanNumber f (plan-numbers s (min (length on) (length off)));
+      refusals = λ n p f. ap drawn (sym (first-refuses f (Given (supportOn s))));
+      replies = λ none. ap drawn (none-holds causes (Given (supportOn s)) none) }
 
 -- ---- demand 2: a plan handed in beside a sheet that passes the checks
 
@@ -112,21 +129,26 @@ demand-2-plan s out ok room bound =
 
 -- ---- demand 3: any sheet that passes the checks, with outputs that have a place for every step
 
--- FindSupport's plan meets all set and number limits, and every other plan that meets them has at least as many switches, counted from the start set.
-pub demand-3-fewest : (s : List ℕ) → Passes s
-    → FeasiblePlan (limitsOn s) (supportOn s) × ((q : List ℕ) → FeasiblePlan (limitsOn s) q → total (startOf s) (supportOn s) ≤ total (startOf s) q)
-demand-3-fewest s ok = let best = plan-fewest s (passed s ok) in (best .0, λ q f. omega (arith, best .1 .0, best .1 .1 q f))
-
--- The plan is refused for the bound exactly when that number is above it, and the refusal's place is that number; else it is the total, and the plan
--- written out is FindSupport's.
-pub demand-3-plan : (s out : List ℕ) → Passes s → length (stepsOf s) ≤ length out
-    → (boundOf s < total (startOf s) (supportOn s) → warmPlan s out ≡ (refusedReply 9 (total (startOf s) (supportOn s)), out))
-    × (total (startOf s) (supportOn s) ≤ boundOf s → warmPlan s out ≡ (fullReply (total (startOf s) (supportOn s)) 0, written (supportOn s) out))
-unfolding warmPlan planned campaignOf
-demand-3-plan s out ok room =
+pub demand-3 : (s plan on off : List ℕ) → Passes s
+    → length (stepsOf s) ≤ length plan → length (stepsOf s) ≤ length on → length (stepsOf s) ≤ length off
+    → Heart s plan on off (total (startOf s) (supportOn s))
+unfolding warmPlan planned warmChart charted campaignOf
+demand-3 s plan on off ok plan-room on-room off-room =
     let e = passed s ok in
-    (λ h. ap (planned (startOf s) out) (sym (over-bound s e h ∙ plan-open s (length out) e room)),
-    λ h. ap (planned (startOf s) out) (sym (in-bound s e h (Given (supportOn s)) ∙ plan-open s (length out) e room)))
+    let best = plan-fewest s e in
+    let drawn = charted (startOf s) (onWords s) (offWords s) on off in
+    record {
+      feasible = best .0;
+      fewest = λ q f. omega (arith, best .1 .0, best .1 .1 q f);
+      planOver = λ h. ap (planned (startOf s) plan) (sym (over-bound s e h ∙ plan-open s (length plan) e plan-room));
+      chartOver = λ h. ap drawn (sym (over-bound s e h ∙ plan-open s (min (length on) (length off)) e (omega arith)));
+      planWithin = λ h. ap (planned (startOf s) plan) (sym (in-bound s e h (Given (supportOn s)) ∙ plan-open s (length plan) e plan-room));
+      chartWithin = λ h. ap drawn (sym (in-bound s e h (Given (supportOn s)) ∙ plan-open s (min (length on) (length off)) e (omega arith)));
+      onLength = on-length s;
+      offLength = off-length s;
+      onCells = on-cells s e;
+      offCells = off-cells s e;
+      noOthers = no-others s e }
 
 -- what row 7 of the table tests: it holds of a step exactly if no set is feasible there
 pub a-feasible-set : (x : Step) → hasFeasible (x .lower) (x .upper) (x .least) (x .greatest) ≡ true
@@ -153,3 +175,13 @@ unfolding warmSteps
 agreeing-steps s t out g =
     let a = agreeing-sheets s t g in
     (alike-answer s t (length out) a stepsReply (alike-reply s t a), alike-answer s t (length out) a (λ x. map untagged (stepsWritten x out)) (alike-written s t out a))
+
+-- and the others give the same in all
+pub agreeing-plan : (s t out : List ℕ) → Agree s t → warmPlan s out ≡ warmPlan t out
+agreeing-plan s t out g = alike-plan s t (agreeing-sheets s t g) out
+
+pub agreeing-chart : (s t on off : List ℕ) → Agree s t → warmChart s on off ≡ warmChart t on off
+agreeing-chart s t on off g = alike-chart s t (agreeing-sheets s t g) on off
+
+pub agreeing-verdict : (s t plan : List ℕ) → Agree s t → warmVerdict s plan ≡ warmVerdict t plan
+agreeing-verdict s t plan g = alike-verdict s t (agreeing-sheets s t g) plan

@@ -79,7 +79,7 @@ filled s out = go (stepsAnswer s (length out)) refl
 -- ---- sheets that are alike
 
 module _ (s t : List ℕ) (a : Alike s t) where
-  alike-many : length (stepsOf s) ≡ length (stepsOf t)
+  pub alike-many : length (stepsOf s) ≡ length (stepsOf t)
   alike-many = sym (length-map (stepsOf s) untagged) ∙ ap length (a .steps) ∙ length-map (stepsOf t) untagged
 
   pub alike-reply : stepsReply (Given (campaignOf s)) ≡ stepsReply (Given (campaignOf t))

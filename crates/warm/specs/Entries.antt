@@ -1,5 +1,5 @@
 -- What each entry replies and leaves in the lent memory, for any input.
-use Prim.Native.Nat.{ℕ}
+use Prim.Native.Nat.{ℕ, min}
 use mathlib.Core.Bool.{Bool, cond, not, _&&_}
 use mathlib.Core.List.{List, [], _∷_, _++_, map}
 use lib.Dec.{ltb, leb, eqb}
@@ -9,7 +9,7 @@ use Rattle.sheet.specs.Answer.{Answer, Refused, Given, Cause, cause, unless}
 use Rattle.sheet.specs.Format.{unitsOf, boundOf, startOf}
 use Rattle.sheet.specs.Reading.{stepsOf, readCauses, Campaign, campaignOf}
 use Rattle.switch.specs.Columns.{limits}
-use Rattle.switch.specs.Plans.{isFeasible, fewest}
+use Rattle.switch.specs.Plans.{isFeasible, fewest, canBeOn, canBeOff}
 use Rattle.switch.specs.Support.{findSupport}
 use Rattle.switch.specs.Switch.{Limits, total}
 use Rattle.warm.specs.declared.Reply.{Reply}
@@ -93,6 +93,24 @@ planned start out (Given plan) = (fullReply (total start plan) 0, written plan o
 
 unfoldable pub warmPlan : List ℕ → List ℕ → Reply × List ℕ
 warmPlan s out = planned (startOf s) out (planAnswer s (length out))
+
+-- ---- the chart
+
+-- the units that can be on in each step, and those that can be off, over all plans that meet the sheet
+unfoldable pub onWords : List ℕ → List ℕ
+onWords s = canBeOn (unitsOf s) (boundOf s) (startOf s) (limitsOn s)
+
+unfoldable pub offWords : List ℕ → List ℕ
+offWords s = canBeOff (unitsOf s) (boundOf s) (startOf s) (limitsOn s)
+
+-- the reply with the plan's total, and the outputs with the chart; a refusal leaves them as they were
+unfoldable pub charted : ℕ → List ℕ → List ℕ → List ℕ → List ℕ → Answer (List ℕ) → Reply × (List ℕ × List ℕ)
+charted start canOn canOff on off (Refused n p) = (refusedReply n p, (on, off))
+charted start canOn canOff on off (Given plan) = (fullReply (total start plan) 0, (written canOn on, written canOff off))
+
+-- refused where the plan is, for the shorter of the two outputs
+unfoldable pub warmChart : List ℕ → List ℕ → List ℕ → Reply × (List ℕ × List ℕ)
+warmChart s on off = charted (startOf s) (onWords s) (offWords s) on off (planAnswer s (min (length on) (length off)))
 
 -- ---- the verdict
 
