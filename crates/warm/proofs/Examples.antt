@@ -1,16 +1,24 @@
 -- The worked examples hold: each row is computed from the definitions.
 use mathlib.Core.Path.{refl}
+use mathlib.Core.List.{_++_}
 use Rattle.units.specs.Limits.{hasFeasible}
-use Rattle.units.specs.Sets.{bit, intersection, isSubset, size, hasUnitFrom}
+use Rattle.units.specs.Sets.{bit, union, intersection, difference, contains, insert, remove, isSubset, size, unitsBelow, hasUnitFrom}
 use Rattle.sheet.specs.Answer.{unless}
 use Rattle.sheet.specs.Chain.{following, chainOf, isIn, linkCauses}
 use Rattle.sheet.specs.Format.{stepOf, nextOf}
 use Rattle.sheet.specs.Numbers.{byteAt, u16At, u32At, u64At}
 use Rattle.sheet.specs.Reading.{same, stepsCauses, readCauses, campaignOf}
+use Rattle.switch.specs.Plans.{select, below, allows, isFeasible, prefixed, plansOf, leastOf, fewest, plansWithin, joined, joinedAll, canBeOn, canBeOff}
+use Rattle.switch.specs.Support.{nextRequired, nextForbidden, requiredFirst, ranksBefore, firstIn, taken, supportSet, supportFrom, findSupport}
+use Rattle.switch.specs.Switch.{switches, total}
 use lib.Count.{ones, onesIn}
-use Rattle.warm.specs.Entries.{stepsRefusals, stepsReply, stepsWritten, warmSteps}
-use Rattle.warm.specs.Examples.{bytesOf, headerBytes, recordBytes, All, examples}
+use Rattle.warm.specs.Entries.{stepsRefusals, stepsReply, stepsWritten, warmSteps, fewestOn, supportOn, planRefusals, planned, warmPlan, onWords, offWords, charted, warmChart, verdictRefusals, accepts, judged, warmVerdict}
+use Rattle.warm.specs.Examples.{bytesOf, headerBytes, recordBytes, recordsFrom, sheetOf, All, benches, choices}
 
-pub examples-hold : All examples
-unfolding hasFeasible bit intersection isSubset size hasUnitFrom unless following chainOf isIn linkCauses stepOf nextOf byteAt u16At u32At u64At same stepsCauses readCauses campaignOf stepsRefusals stepsReply stepsWritten warmSteps bytesOf headerBytes recordBytes examples ones onesIn
-examples-hold = (refl, (refl, (refl, tt)))
+pub benches-hold : All benches
+unfolding hasFeasible bit union intersection difference contains insert remove isSubset size unitsBelow hasUnitFrom unless following chainOf isIn linkCauses stepOf nextOf byteAt u16At u32At u64At same stepsCauses readCauses campaignOf select below allows isFeasible prefixed plansOf leastOf fewest plansWithin joined joinedAll canBeOn canBeOff nextRequired nextForbidden requiredFirst ranksBefore firstIn taken supportSet supportFrom findSupport switches total stepsRefusals stepsReply stepsWritten warmSteps fewestOn supportOn planRefusals planned warmPlan onWords offWords charted warmChart verdictRefusals accepts judged warmVerdict bytesOf headerBytes recordBytes recordsFrom sheetOf ones onesIn benches
+benches-hold = (refl, (refl, (refl, (refl, (refl, (refl, (refl, (refl, (refl, (refl, (refl, tt)))))))))))
+
+pub choices-hold : All choices
+unfolding hasFeasible bit union intersection difference contains insert remove isSubset size unitsBelow hasUnitFrom unless following chainOf isIn linkCauses stepOf nextOf byteAt u16At u32At u64At same stepsCauses readCauses campaignOf select below allows isFeasible prefixed plansOf leastOf fewest plansWithin joined joinedAll canBeOn canBeOff nextRequired nextForbidden requiredFirst ranksBefore firstIn taken supportSet supportFrom findSupport switches total stepsRefusals stepsReply stepsWritten warmSteps fewestOn supportOn planRefusals planned warmPlan onWords offWords charted warmChart verdictRefusals accepts judged warmVerdict bytesOf headerBytes recordBytes recordsFrom sheetOf ones onesIn choices
+choices-hold = (refl, (refl, (refl, (refl, (refl, (refl, (refl, (refl, (refl, (refl, (refl, (refl, tt))))))))))))
