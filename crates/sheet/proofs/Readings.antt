@@ -154,11 +154,12 @@ module _ (s : List ℕ) {h : Header} (e : headerRead s ≡ Given h) where
 
 -- ---- a campaign that was read
 
--- its steps are those of the records that follow the header, and those lie within the sheet
+-- it has few units; its steps are those of the records that follow the header, and those lie within the sheet
 pub record Walkable (s : List ℕ) (c : Campaign) : Type 0 where
   pub inside : Inside s 0 (length (c .steps))
   pub steps : c .steps ≡ stepsFrom s 0 (length (c .steps))
   pub few : length (c .steps) ≤ recordLimit
+  pub units : c .units ≤ unitLimit
 
 pub reading-walkable : (s : List ℕ) {c : Campaign} → readingOf s ≡ Given c → Walkable s c
 unfolding campaignOf chainOf
@@ -174,6 +175,7 @@ reading-walkable s {c} e =
       inside = subst (Inside s 0) (sym many) (kept .inside);
       steps = following-steps (suc (recordsOf s)) s 0 ∙ ap (stepsFrom s 0) (sym many);
       few = omega (arith, many, kept .few, sound .few-records);
+      units = sound .few-units;
     })
 
 -- its steps have no fault: the upper set has no unit from d up, and some set is feasible

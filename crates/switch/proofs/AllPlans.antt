@@ -1,5 +1,5 @@
 -- The plans that `plansOf` lists are the feasible ones (`listed-feasible`, `feasible-listed`), and what is said of all plans in the laws on the chart
--- (`Below`, `Shows`, `SomePlan`).
+-- (`Shows`, `SomePlan`).
 use mathlib.Core.Path.{_≡_, refl, sym, ap, _∙_, subst}
 use mathlib.Core.Logic.{⊎-elim, _↔_}
 use mathlib.Core.Bool.{Bool, true, false, cond, _&&_, false≢true}
@@ -12,12 +12,7 @@ use borrow.Author.Tests.{leb-true, le-leb}
 use Rattle.units.specs.Sets.{bit, Subset}
 use Rattle.units.proofs.Sets.{bit-le, bit-cases, below-pow, unit-below, subset-holds, subset-test}
 use Rattle.switch.specs.Switch.{Limits, Allows, FeasiblePlan, total}
-use Rattle.switch.specs.Plans.{select, below, allows, prefixed, plansOf}
-
--- each step's upper set has units below d alone
-abbrev pub Below : ℕ → List Limits → Type 0
-Below d [] = Unit {0}
-Below d (s ∷ ss) = (s .upper < 2 ^ d) × Below d ss
+use Rattle.switch.specs.Plans.{select, below, allows, prefixed, Below, plansOf}
 
 -- unit u is on in the set x, or it is off
 abbrev pub Shows : Bool → ℕ → ℕ → Type 0

@@ -14,8 +14,8 @@ use borrow.Author.Tests.{leb-true, le-leb}
 use Rattle.units.specs.Sets.{bit, difference}
 use Rattle.units.proofs.Sets.{bit-zero, bit-suc, bit-le, bit-cases, bit-empty, bit-union, bit-difference, unit-below}
 use Rattle.switch.specs.Switch.{Limits, FeasiblePlan, total}
-use Rattle.switch.specs.Plans.{plansOf, plansWithin, joined, joinedAll, canBeOn, canBeOff}
-use Rattle.switch.proofs.AllPlans.{Below, Shows, SomePlan, select-member, plan-length, plan-below, listed-feasible, feasible-listed}
+use Rattle.switch.specs.Plans.{Below, plansOf, plansWithin, joined, joinedAll, canBeOn, canBeOff, canBe}
+use Rattle.switch.proofs.AllPlans.{Shows, SomePlan, select-member, plan-length, plan-below, listed-feasible, feasible-listed}
 
 -- ---- joined plans
 
@@ -75,11 +75,6 @@ module _ (f : ℕ → ℕ) where
 abbrev charted : Bool → ℕ → ℕ → ℕ
 charted true d x = x
 charted false d x = difference (2 ^ d - 1) x
-
--- the units that can be on, or those that can be off
-abbrev pub canBe : Bool → ℕ → ℕ → ℕ → List Limits → List ℕ
-canBe true d bound start ss = canBeOn d bound start ss
-canBe false d bound start ss = canBeOff d bound start ss
 
 -- the set 2 ^ d - 1 has all units below d
 bit-full : (d u : ℕ) → u < d → bit (2 ^ d - 1) u ≡ 1

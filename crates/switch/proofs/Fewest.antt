@@ -7,8 +7,8 @@ use Prim.Native.Nat.{ℕ, _≤_}
 use native.Mathlib.Omega.{arith}
 use Rattle.switch.specs.Switch.{Limits, FeasiblePlan, total, Satisfiable}
 use Rattle.switch.specs.Support.{findSupport}
-use Rattle.switch.specs.Plans.{plansOf, leastOf, fewest}
-use Rattle.switch.proofs.AllPlans.{Below, listed-feasible, feasible-listed}
+use Rattle.switch.specs.Plans.{Below, plansOf, leastOf, fewest}
+use Rattle.switch.proofs.AllPlans.{listed-feasible, feasible-listed}
 use Rattle.switch.proofs.Greedy.{plan-greedy}
 use Rattle.switch.proofs.Optimal.{optimal}
 

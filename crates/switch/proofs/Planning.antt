@@ -103,8 +103,16 @@ module _ {lower upper least greatest : List ℕ} (g : Columns lower upper least 
 -- ---- after some steps
 
 -- The plan from the step at i on, where `before` is on before it.
-abbrev rest : List Limits → ℕ → ℕ → List ℕ
+abbrev pub rest : List Limits → ℕ → ℕ → List ℕ
 rest ss i before = supportFrom (length ss) (i + 1) before (drop i ss)
+
+-- the set of the step at i, and the plan after it
+pub rest-at : (ss : List Limits) (i before x : ℕ) {s : Limits} → drop i ss ≡ s ∷ drop (i + 1) ss
+    → x ≡ supportSet (ranksBefore (length ss) (i + 1) (drop i ss)) s before → rest ss i before ≡ x ∷ rest ss (i + 1) x
+unfolding supportFrom
+rest-at ss i before x {s} e is =
+    ap (supportFrom (length ss) (i + 1) before) e
+    ∙ ap (λ (y : ℕ). y ∷ rest ss (i + 1) y) (ap (λ t. supportSet (ranksBefore (length ss) (i + 1) t) s before) (sym e) ∙ sym is)
 
 -- What holds of the list, of what is on, and of the number of switches after i steps.
 pub record Planned (ss : List Limits) (start : ℕ) (entry now : List ℕ) (i before sum : ℕ) : Type 0 where
@@ -119,21 +127,12 @@ unfolding findSupport
 plan-begun ss start entry = record { same-long = refl; written = refl; untouched = refl; counted = omega arith; small = omega arith }
 
 module _ {ss : List Limits} {start : ℕ} {entry now : List ℕ} {i before sum : ℕ} (g : Planned ss start entry now i before sum) where
-  -- the set of the step at i, and the plan after it
-  turned : {s : Limits} → drop i ss ≡ s ∷ drop (i + 1) ss
-      → rest ss i before
-      ≡ supportSet (ranksBefore (length ss) (i + 1) (drop i ss)) s before ∷ rest ss (i + 1) (supportSet (ranksBefore (length ss) (i + 1) (drop i ss)) s before)
-  unfolding supportFrom
-  turned {s} e =
-      ap (supportFrom (length ss) (i + 1) before) e
-      ∙ ap (λ t. supportSet (ranksBefore (length ss) (i + 1) t) s before ∷ rest ss (i + 1) (supportSet (ranksBefore (length ss) (i + 1) t) s before)) (sym e)
-
   pub plan-on : {s : Limits} (x : ℕ) → i < length entry → drop i ss ≡ s ∷ drop (i + 1) ss
       → x ≡ supportSet (ranksBefore (length ss) (i + 1) (drop i ss)) s before → size (difference x before) ≤ 64
       → Planned ss start entry (set now i x) (i + 1) x (sum + size (difference x before))
   unfolding total switches
   plan-on {s} x h e is few =
-      let new : rest ss i before ≡ x ∷ rest ss (i + 1) x = turned e ∙ ap (λ (y : ℕ). y ∷ rest ss (i + 1) y) (sym is) in
+      let new = rest-at ss i before x e is in
       record {
         same-long = length-set now i x ∙ g .same-long;
         written =

@@ -1,5 +1,5 @@
 -- What is said of all plans: the fewest switches of any feasible plan, and which units some plan within a bound has on, or off, in a step.
-use Prim.Native.Nat.{ℕ, zero, suc, _-_, _^_, min}
+use Prim.Native.Nat.{ℕ, zero, suc, _-_, _^_, _<_, min}
 use mathlib.Core.Bool.{Bool, true, false, cond, _&&_}
 use mathlib.Core.List.{List, [], _∷_, _++_, map}
 use lib.Dec.{leb}
@@ -34,6 +34,11 @@ isFeasible (s ∷ ss) (x ∷ xs) = allows s x && isFeasible ss xs
 unfoldable pub prefixed : List ℕ → List (List ℕ) → List (List ℕ)
 prefixed [] plans = []
 prefixed (x ∷ xs) plans = map (λ p. x ∷ p) plans ++ prefixed xs plans
+
+-- each step's upper set has units below d alone
+abbrev pub Below : ℕ → List Limits → Type 0
+Below d [] = Unit {0}
+Below d (s ∷ ss) = (s .upper < 2 ^ d) × Below d ss
 
 -- all feasible plans with units below d
 unfoldable pub plansOf : ℕ → List Limits → List (List ℕ)
@@ -74,3 +79,8 @@ canBeOn d bound start ss = joinedAll (length ss) (plansWithin d bound start ss)
 
 unfoldable pub canBeOff : ℕ → ℕ → ℕ → List Limits → List ℕ
 canBeOff d bound start ss = joinedAll (length ss) (map (map (difference (2 ^ d - 1))) (plansWithin d bound start ss))
+
+-- the one or the other
+abbrev pub canBe : Bool → ℕ → ℕ → ℕ → List Limits → List ℕ
+canBe true d bound start ss = canBeOn d bound start ss
+canBe false d bound start ss = canBeOff d bound start ss

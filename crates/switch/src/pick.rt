@@ -25,7 +25,7 @@ fn first_by_number(s: u64, last: bool) -> u32
 }
 
 // One of two sets.
-fn choose(first: bool, a: u64, b: u64) -> u64
+pub fn choose(first: bool, a: u64, b: u64) -> u64
     ensures { λ r. ⌜ r ≡ cond first a b ⌝ }
 {
     if first { a } else { b }

@@ -1,20 +1,27 @@
--- Laws on the chart of a sheet that was read: it has a word for each step, and its cells say what plans that meet the sheet do.
-use mathlib.Core.Path.{_≡_, _∙_}
+-- Laws on the chart of a sheet that was read: it has a word for each step, its cells say what plans that meet the sheet do, and what it is made from is
+-- at hand once the plan is.
+use mathlib.Core.Path.{_≡_, sym, ap, ap₂, _∙_}
 use mathlib.Core.Logic.{_↔_}
 use mathlib.Core.Bool.{true, false}
-use mathlib.Core.List.{List}
+use mathlib.Core.List.{List, _++_, map}
 use Prim.Native.Nat.{ℕ, _≤_, _<_}
 use native.Mathlib.Omega.{arith}
-use lib.ListN.{length, length-map, getD}
+use lib.ListN.{length, length-map, getD, take, drop}
 use Rattle.units.specs.Sets.{bit}
 use Rattle.sheet.specs.declared.Summary.{Summary}
 use Rattle.sheet.specs.Answer.{Given}
 use Rattle.sheet.specs.Format.{unitsOf, boundOf, startOf}
 use Rattle.sheet.specs.Reading.{stepsOf}
 use Rattle.sheet.specs.Told.{summaryRead}
+use Rattle.switch.specs.Columns.{columns}
+use Rattle.switch.specs.Plans.{Below, canBeOn, canBeOff}
+use Rattle.switch.specs.Solved.{Solved}
+use Rattle.switch.specs.Support.{findSupport}
+use Rattle.switch.specs.Switch.{Limits, total}
 use Rattle.switch.proofs.Cells.{cell-count, cell, cell-beyond}
-use Rattle.warm.specs.Entries.{limitsOf, limitsOn, onWords, offWords}
+use Rattle.warm.specs.Entries.{limitsOf, limitsOn, supportOn, written, onWords, offWords}
 use Rattle.warm.specs.Statements.{SomePlanHas}
+use Rattle.warm.proofs.Decoded.{many-steps, start-is, bound-is, units-are, few-units, columns-are, columns-sound}
 use Rattle.warm.proofs.Plans.{uppers-below}
 
 module _ (s : List ℕ) where
@@ -47,3 +54,45 @@ module _ (s : List ℕ) where
     no-others k =
         let beyond = cell-beyond (unitsOf s) (boundOf s) (startOf s) (limitsOn s) i u among (uppers-below s e) in
         (beyond true k, beyond false k)
+
+-- what the chart is made from, once the plan is made and within the bound
+pub chart-solved : (s : List ℕ) {x : Summary} (e : summaryRead s ≡ Given x) {sets : List ℕ} {many : ℕ}
+    → take (x .steps) sets ≡ supportOn s → many ≡ total (startOf s) (supportOn s) → many ≤ x .bound
+    → Solved (map (λ y. y .lower) (stepsOf s)) (map (λ y. y .upper) (stepsOf s)) (map (λ y. y .least) (stepsOf s)) (map (λ y. y .greatest) (stepsOf s))
+    (x .start) (x .units) (x .bound) many sets
+unfolding supportOn
+chart-solved s {x} e {sets} {many} planned counted within =
+    let long : length (map (λ y. y .lower) (stepsOf s)) ≡ x .steps = length-map (stepsOf s) (λ y. y .lower) ∙ many-steps s e in
+    record {
+      steps = columns-sound s e;
+      below = rw (columns-are s e, units-are s e) (uppers-below s e);
+      units = few-units s e;
+      planned = rw (columns-are s e, start-is s e) (ap (λ (k : ℕ). take k sets) long ∙ planned);
+      counted = rw (columns-are s e, start-is s e) counted;
+      within = within;
+    }
+
+-- what the chart leaves in the outputs is what the definition says
+module _ (s : List ℕ) {x : Summary} (e : summaryRead s ≡ Given x) where
+  abbrev pub decoded : List Limits
+  decoded = columns (map (λ y. y .lower) (stepsOf s)) (map (λ y. y .upper) (stepsOf s)) (map (λ y. y .least) (stepsOf s)) (map (λ y. y .greatest) (stepsOf s))
+
+  abbrev pub long : ℕ
+  long = length (map (λ y. y .lower) (stepsOf s))
+
+  placed : (words all out : List ℕ) → words ≡ all → length all ≡ length (stepsOf s) → words ++ drop long out ≡ written all out
+  placed words all out same many = ap₂ (λ l (k : ℕ). l ++ drop k out) same (length-map (stepsOf s) (λ y. y .lower) ∙ sym many)
+
+  pub on-written : (out : List ℕ) → canBeOn (x .units) (x .bound) (x .start) decoded ++ drop long out ≡ written (onWords s) out
+  unfolding onWords
+  on-written out =
+      placed (canBeOn (x .units) (x .bound) (x .start) decoded) (onWords s) out
+      (λ i. canBeOn (units-are s e i) (bound-is s e i) (start-is s e i) (columns-are s e i))
+      (on-length s)
+
+  pub off-written : (out : List ℕ) → canBeOff (x .units) (x .bound) (x .start) decoded ++ drop long out ≡ written (offWords s) out
+  unfolding offWords
+  off-written out =
+      placed (canBeOff (x .units) (x .bound) (x .start) decoded) (offWords s) out
+      (λ i. canBeOff (units-are s e i) (bound-is s e i) (start-is s e i) (columns-are s e i))
+      (off-length s)

@@ -68,6 +68,10 @@ module _ (s : List ℕ) {x : Summary} (e : summaryRead s ≡ Given x) where
   unfolding campaignOf
   few-steps = omega (arith, walkable .few, many-steps)
 
+  pub few-units : x .units ≤ 64
+  unfolding campaignOf
+  few-units = omega (arith, walkable .units, units-are)
+
   pub inside-steps : Inside s 0 (x .steps)
   unfolding campaignOf
   inside-steps = subst (Inside s 0) many-steps (walkable .inside)

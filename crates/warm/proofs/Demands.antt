@@ -72,14 +72,15 @@ plan-numbers s places =
 
 pub demand-1-plan : (s out : List ℕ)
     → Exact (planRefusals s (length out)) PlanNumber (warmPlan s out) (λ n p. (refusedReply n p, out))
-      (fullReply (total (startOf s) (supportOn s)) 0, written (supportOn s) out)
+    (fullReply (total (startOf s) (supportOn s)) 0, written (supportOn s) out)
 unfolding warmPlan planned
 demand-1-plan s out =
     record {
       decided = first-decided (planRefusals s (length out));
       numbered = λ n p f. numbered-first PlanNumber f (plan-numbers s (length out));
       refusals = λ n p f. ap (planned (startOf s) out) (sym (first-refuses f (Given (supportOn s))));
-      replies = λ none. ap (planned (startOf s) out) (none-holds (planRefusals s (length out)) (Given (supportOn s)) none) }
+      replies = λ none. ap (planned (startOf s) out) (none-holds (planRefusals s (length out)) (Given (supportOn s)) none);
+    }
 
 pub demand-1-verdict : (s plan : List ℕ)
     → Exact (verdictRefusals s (length plan)) VerdictNumber (warmVerdict s plan) refusedReply (fullReply (total (startOf s) plan) (accepts s plan))
@@ -89,7 +90,8 @@ demand-1-verdict s plan =
       decided = first-decided (verdictRefusals s (length plan));
       numbered = λ n p f. numbered-first VerdictNumber f numbers;
       refusals = λ n p f. ap judged (sym (first-refuses f (Given (fullReply (total (startOf s) plan) (accepts s plan)))));
-      replies = λ none. ap judged (none-holds (verdictRefusals s (length plan)) (Given (fullReply (total (startOf s) plan) (accepts s plan))) none) }
+      replies = λ none. ap judged (none-holds (verdictRefusals s (length plan)) (Given (fullReply (total (startOf s) plan) (accepts s plan))) none);
+    }
   where
     numbers : Numbered VerdictNumber (verdictRefusals s (length plan))
     numbers = numbered-append VerdictNumber (readCauses s) (wordsCauses s (length plan)) (numbered-read VerdictNumber (λ n l h. inl (l, h)) s) (inr refl, tt)
@@ -97,7 +99,7 @@ demand-1-verdict s plan =
 -- the chart has the plan's refusals, for the shorter of its outputs
 pub demand-1-chart : (s on off : List ℕ)
     → Exact (planRefusals s (min (length on) (length off))) PlanNumber (warmChart s on off) (λ n p. (refusedReply n p, (on, off)))
-      (fullReply (total (startOf s) (supportOn s)) 0, (written (onWords s) on, written (offWords s) off))
+    (fullReply (total (startOf s) (supportOn s)) 0, (written (onWords s) on, written (offWords s) off))
 unfolding warmChart charted
 demand-1-chart s on off =
     let causes = planRefusals s (min (length on) (length off)) in
@@ -106,7 +108,8 @@ demand-1-chart s on off =
       decided = first-decided causes;
       numbered = λ n p f. numbered-first PlanNumber f (plan-numbers s (min (length on) (length off)));
       refusals = λ n p f. ap drawn (sym (first-refuses f (Given (supportOn s))));
-      replies = λ none. ap drawn (none-holds causes (Given (supportOn s)) none) }
+      replies = λ none. ap drawn (none-holds causes (Given (supportOn s)) none);
+    }
 
 -- ---- demand 2: a plan handed in beside a sheet that passes the checks
 
@@ -123,9 +126,10 @@ pub demand-2-plan : (s out : List ℕ) → Passes s → length (stepsOf s) ≤ l
 unfolding warmPlan planned campaignOf
 demand-2-plan s out ok room bound =
     let e = passed s ok in
-    let best = plan-fewest s e in
-    (ap (planned (startOf s) out) (sym (in-bound s e (omega (arith, best .1 .0)) (Given (supportOn s)) ∙ plan-open s (length out) e room)),
-    demand-2-verdict s (supportOn s) ok (plan-length s) .0 ∙ ap (fullReply (total (startOf s) (supportOn s))) (accepts-exactly s (supportOn s) .1 (best .0, omega (arith, best .1 .0))))
+    let best = plan-fewest s e in (
+      ap (planned (startOf s) out) (sym (in-bound s e (omega (arith, best .1 .0)) (Given (supportOn s)) ∙ plan-open s (length out) e room)),
+      demand-2-verdict s (supportOn s) ok (plan-length s) .0 ∙ ap (fullReply (total (startOf s) (supportOn s))) (accepts-exactly s (supportOn s) .1 (best .0, omega (arith, best .1 .0))),
+    )
 
 -- ---- demand 3: any sheet that passes the checks, with outputs that have a place for every step
 
@@ -148,7 +152,8 @@ demand-3 s plan on off ok plan-room on-room off-room =
       offLength = off-length s;
       onCells = on-cells s e;
       offCells = off-cells s e;
-      noOthers = no-others s e }
+      noOthers = no-others s e;
+    }
 
 -- what row 7 of the table tests: it holds of a step exactly if no set is feasible there
 pub a-feasible-set : (x : Step) → hasFeasible (x .lower) (x .upper) (x .least) (x .greatest) ≡ true

@@ -17,9 +17,9 @@ use Rattle.sheet.specs.Reading.{stepsOf, readCauses, campaignOf}
 use Rattle.sheet.specs.Told.{summaryOf, summaryRead}
 use Rattle.sheet.proofs.Answers.{refused-by, passed-by, none-left, unless-append, all-passed, refused-whatever, none-holds}
 use Rattle.sheet.proofs.Readings.{Faultless}
+use Rattle.switch.specs.Plans.{Below}
 use Rattle.switch.specs.Support.{supportFrom, findSupport}
 use Rattle.switch.specs.Switch.{Limits, FeasiblePlan, total}
-use Rattle.switch.proofs.AllPlans.{Below}
 use Rattle.switch.proofs.Fewest.{support-fewest}
 use Rattle.warm.specs.Entries.{limitsOf, limitsOn, fewestOn, supportOn, boundCauses, placesCauses, written, planRefusals, planAnswer, planned}
 use Rattle.warm.specs.Statements.{Passes}
@@ -94,8 +94,9 @@ module _ (s : List ℕ) (places : ℕ) where
     plan-open h = long-output s e places h _ ∙ was-read s e _ ∙ sym plan-staged
 
 -- the plan stands in the first places of a list that it was handed to
+pub plan-taken : (s : List ℕ) {x : Summary} (e : summaryRead s ≡ Given x) (rest : List ℕ) → take (x .steps) (supportOn s ++ rest) ≡ supportOn s
+plan-taken s {x} e rest = take-at (supportOn s) rest (x .steps) (plan-length s ∙ many-steps s e)
+
 pub plan-part : (s : List ℕ) {x : Summary} (e : summaryRead s ≡ Given x) (rest out : List ℕ)
     → take (x .steps) (supportOn s ++ rest) ++ drop (x .steps) out ≡ written (supportOn s) out
-plan-part s {x} e rest out =
-    let long = plan-length s ∙ many-steps s e in
-    ap₂ (λ l (k : ℕ). l ++ drop k out) (take-at (supportOn s) rest (x .steps) long) (sym long)
+plan-part s {x} e rest out = ap₂ (λ l (k : ℕ). l ++ drop k out) (plan-taken s e rest) (sym (plan-length s ∙ many-steps s e))

@@ -1,0 +1,107 @@
+-- `warm::charting::warm_chart` meets its contract.
+use mathlib.Core.Path.{sym, ap, _∙_}
+use Prim.Native.Nat.{min}
+use native.Mathlib.Omega.{arith}
+use denote.Ref.{now}
+use lib.ListN.{length}
+use Rattle.sheet.specs.Format.{startOf}
+use Rattle.sheet.specs.Told.{readTold}
+use Rattle.warm.specs.Entries.{onWords, offWords, charted, warmChart}
+use Rattle.warm.proofs.Plans.{plan-refused, plan-short, plan-open}
+use borrow.Author.Needs.{needs}
+use Rattle.warm.proofs.charting.warm_chart.Statement.{statement}
+use Rattle.warm.proofs.charting.warm_chart.Tie as tie
+
+read-requires : tie.Need-read-requires
+read-requires c κs = search needs
+
+enum-known-x : tie.Need-enum-known-x
+enum-known-x c = search needs
+
+refused-requires : tie.Need-refused-requires
+refused-requires c κs = search needs
+
+enum-known-x-2 : tie.Need-enum-known-x-2
+enum-known-x-2 c = search needs
+
+cast-if1 : tie.Need-cast-if1
+cast-if1 c = search needs
+
+refused-requires-2 : tie.Need-refused-requires-2
+refused-requires-2 c κs = search needs
+
+returns : tie.Need-returns
+unfolding warmChart charted
+returns c =
+    let a = c .before .before .before .before .before .before .before .before .before .before .args in
+    let s = now (a .sheet) in
+    let on = now (a .on) in
+    let off = now (a .off) in
+    let read = sym (c .before .before .before .before .before .before .read .ensures) ∙ ap readTold (c .before .before .before .before .x2 .given .1) in
+    ap (λ r. (r, (on, off))) (c .refused2 .ensures) ∙ ap (charted (startOf s) (onWords s) (offWords s) on off) (plan-short s (min (length on) (length off)) read (omega (arith, c .before .if1 .taken)))
+
+cast-if2 : tie.Need-cast-if2
+cast-if2 c = search needs
+
+refused-requires-3 : tie.Need-refused-requires-3
+refused-requires-3 c κs = search needs
+
+returns-2 : tie.Need-returns-2
+unfolding warmChart charted
+returns-2 c =
+    let a = c .before .before .before .before .before .before .before .before .before .before .before .before .args in
+    let s = now (a .sheet) in
+    let on = now (a .on) in
+    let off = now (a .off) in
+    let read = sym (c .before .before .before .before .before .before .before .before .read .ensures) ∙ ap readTold (c .before .before .before .before .before .before .x2 .given .1) in
+    ap (λ r. (r, (on, off))) (c .refused3 .ensures) ∙ ap (charted (startOf s) (onWords s) (offWords s) on off) (plan-short s (min (length on) (length off)) read (omega (arith, c .before .if2 .taken)))
+
+hand-out-chart-requires : tie.Need-hand-out-chart-requires
+hand-out-chart-requires c κs =
+    (sym (c .before .before .before .before .before .before .before .before .before .read .ensures) ∙ ap readTold (c .before .before .before .before .before .before .before .x2 .given .1), (c .before .before .before .before .if1 .left, c .before .before .if2 .left))
+
+returns-3 : tie.Need-returns-3
+unfolding warmChart charted
+returns-3 c =
+    let a = c .before .before .before .before .before .before .before .before .args in
+    let s = now (a .sheet) in
+    let on = now (a .on) in
+    let off = now (a .off) in
+    let read = sym (c .before .before .before .before .read .ensures) ∙ ap readTold (c .before .before .x .given .1) in
+    ap (λ r. (r, (on, off))) (c .refused .ensures) ∙ ap (charted (startOf s) (onWords s) (offWords s) on off) (plan-refused s (min (length on) (length off)) read)
+
+same-length : tie.Need-same-length
+same-length c = search needs
+
+same-length-2 : tie.Need-same-length-2
+same-length-2 c = search needs
+
+returns-4 : tie.Need-returns-4
+unfolding warmChart charted
+returns-4 c =
+    let a = c .before .before .before .before .before .before .before .before .before .before .before .before .before .before .before .before .before .before .args in
+    let s = now (a .sheet) in
+    let on = now (a .on) in
+    let off = now (a .off) in
+    let read = sym (c .before .before .before .before .before .before .before .before .before .before .before .before .before .before .read .ensures) ∙ ap readTold (c .before .before .before .before .before .before .before .before .before .before .before .before .x2 .given .1) in
+    c .before .before .before .before .hand-out-chart .ensures ∙ ap (charted (startOf s) (onWords s) (offWords s) on off) (plan-open s (min (length on) (length off)) read (omega (arith, c .before .before .before .before .before .before .before .before .before .if1 .left, c .before .before .before .before .before .before .before .if2 .left)))
+
+pub warm-chart-spec : {M : Type 1} → statement M
+warm-chart-spec =
+    tie.close
+    (tie.spec
+    read-requires
+    enum-known-x
+    refused-requires
+    enum-known-x-2
+    cast-if1
+    refused-requires-2
+    returns
+    cast-if2
+    refused-requires-3
+    returns-2
+    hand-out-chart-requires
+    returns-3
+    same-length
+    same-length-2
+    returns-4)
