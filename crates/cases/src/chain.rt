@@ -1,11 +1,11 @@
 // The faults of the chain's links. Link k leads from step k to the next; link 0 is the header's.
-use super::draws;
-use super::layout::Space;
-use super::layout::put_link;
 use super::sound::Order;
 use super::sound::record_at;
 use super::sound::records_of;
 use super::trial::Trial;
+use trials::draws;
+use trials::layout::Space;
+use trials::layout::put_link;
 ghost use Prim.Native.Nat.{_≤_};
 
 // The link leads out of the sheet, or back to a step already on the chain.

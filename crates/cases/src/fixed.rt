@@ -1,16 +1,16 @@
 // Sheets that are written out by hand, at the edges of the format.
-use super::layout::Head;
-use super::layout::LONGEST;
-use super::layout::Limits;
-use super::layout::SPACE;
-use super::layout::Space;
-use super::layout::put_head;
-use super::layout::put_limits;
-use super::layout::put_link;
-use super::tally::Tally;
 use super::trial::is_read;
 use super::trial::is_refused;
 use sheet::Summary;
+use trials::layout::Head;
+use trials::layout::LONGEST;
+use trials::layout::Limits;
+use trials::layout::SPACE;
+use trials::layout::Space;
+use trials::layout::put_head;
+use trials::layout::put_limits;
+use trials::layout::put_link;
+use trials::tally::Tally;
 ghost use Prim.Native.Nat.{_<_};
 
 // The limits of a step that allows any set of the units given.

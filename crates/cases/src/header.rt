@@ -1,16 +1,16 @@
 // The faults of the header, in the order in which the reader looks for them.
-use super::draws;
-use super::layout::LONGEST;
-use super::layout::SPACE;
-use super::layout::Space;
-use super::layout::length_of;
-use super::layout::put_byte;
-use super::layout::put_set;
-use super::layout::put_u16;
 use super::sound::records_of;
 use super::sound::start_of;
 use super::sound::units_of;
 use super::trial::Trial;
+use trials::draws;
+use trials::layout::LONGEST;
+use trials::layout::SPACE;
+use trials::layout::Space;
+use trials::layout::length_of;
+use trials::layout::put_byte;
+use trials::layout::put_set;
+use trials::layout::put_u16;
 
 pub const CUT_SHORT: usize = 0;
 

@@ -2,14 +2,14 @@
 //
 // The later fault is put first, so that the earlier lies over it where both take the same bytes.
 use super::chain;
-use super::draws;
 use super::header;
-use super::layout::Space;
 use super::sound::Order;
 use super::sound::steps_of;
 use super::sound::units_of;
 use super::steps;
 use super::trial::Trial;
+use trials::draws;
+use trials::layout::Space;
 ghost use Prim.Native.Nat.{_≤_};
 
 // A fault of one place is given by its number there; of two faults each is drawn.

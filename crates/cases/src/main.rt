@@ -1,22 +1,19 @@
 // Tries the reader of sheets on thousands of sheets, sound ones and damaged ones, and writes for each kind how often it was right.
 // What the reader must answer is known from how each sheet is made (docs/FORMAT.md has the format and the refusals).
 mod chain;
-mod draws;
 mod fixed;
 mod header;
 mod kinds;
-mod layout;
 mod sound;
 mod steps;
-mod tally;
 mod trial;
 
 use kinds::Kind;
-use layout::SPACE;
-use layout::Space;
-use layout::length_of;
-use tally::Tally;
 use trial::Trial;
+use trials::layout::SPACE;
+use trials::layout::Space;
+use trials::layout::length_of;
+use trials::tally::Tally;
 
 // How many sheets of each kind.
 const CASES: usize = 8000;

@@ -1,14 +1,14 @@
 // The sound sheet of each case. All its numbers are known from the number of the case, so that nothing has to be read back from its bytes.
-use super::draws;
-use super::layout::Head;
-use super::layout::Limits;
-use super::layout::Space;
-use super::layout::length_of;
-use super::layout::put_head;
-use super::layout::put_limits;
-use super::layout::put_link;
-use super::layout::put_set;
 use sheet::Summary;
+use trials::draws;
+use trials::layout::Head;
+use trials::layout::Limits;
+use trials::layout::Space;
+use trials::layout::length_of;
+use trials::layout::put_head;
+use trials::layout::put_limits;
+use trials::layout::put_link;
+use trials::layout::put_set;
 ghost use Prim.Native.Nat.{_%_, _≤_, _<_};
 
 // The record of each step, by the step's number. At 0 stands 0, for the header.

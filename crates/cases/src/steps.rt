@@ -1,15 +1,15 @@
 // The faults of a step. Each but the first leaves no set within the limits, for one reason alone.
-use super::draws;
 use super::header::high_unit;
-use super::layout::Limits;
-use super::layout::Space;
-use super::layout::put_limits;
 use super::sound::Order;
 use super::sound::limits_of;
 use super::sound::record_at;
 use super::sound::size;
 use super::sound::units_of;
 use super::trial::Trial;
+use trials::draws;
+use trials::layout::Limits;
+use trials::layout::Space;
+use trials::layout::put_limits;
 ghost use mathlib.Core.Path.{_≡_};
 ghost use Prim.Native.Nat.{_%_, _≤_};
 

@@ -1,7 +1,7 @@
 // What a sheet is tried for: the answer that the reader must give, which is known from how the sheet was made.
-use super::layout::Space;
 use sheet::ReadAnswer;
 use sheet::Summary;
+use trials::layout::Space;
 ghost use Prim.Native.Nat.{_≤_};
 
 // How many bytes the sheet has, and the refusal that it must be given: number 0 if none. A trial is not made where the sheet

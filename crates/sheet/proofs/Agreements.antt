@@ -1,19 +1,18 @@
 -- Sheets that agree are read the same but for tags: the same causes of refusal hold, and the campaigns differ in tags alone.
-use mathlib.Core.Path.{_≡_, refl, sym, ap, ap₂, _∙_, subst}
+use mathlib.Core.Path.{_≡_, refl, sym, ap, ap₂, _∙_}
 use mathlib.Core.Bool.{Bool, true, false, cond, _||_}
 use mathlib.Core.List.{List, [], _∷_, _++_, map}
 use Prim.Native.Nat.{ℕ, zero, suc, _+_, _*_, _≤_, _<_, min}
 use native.Mathlib.Nat.{add-assoc, add-zero, zero-add}
 use native.Mathlib.Omega.{arith}
 use lib.Dec.{eqb}
-use lib.ListN.{length, length-take, getD, take}
+use lib.ListN.{length-take, take}
 use lib.Seq.{ext-getD, getD-take}
 use borrow.Author.Tests.{eq-eqb, eqb-false}
 use Rattle.sheet.specs.declared.Step.{Step}
 use Rattle.sheet.specs.Agreement.{Agree, untagged}
-use Rattle.sheet.specs.Answer.{Cause}
 use Rattle.sheet.specs.Chain.{following, chainOf, isIn, linkCauses}
-use Rattle.sheet.specs.Format.{headerSize, recordOffset, lettersOf, editionOf, unitsOf, recordsOf, firstOf, boundOf, reservedOf, startOf, nextOf, stepOf}
+use Rattle.sheet.specs.Format.{headerSize, recordOffset, lettersOf, unitsOf, recordsOf, boundOf, startOf, nextOf, stepOf}
 use Rattle.sheet.specs.Numbers.{byteAt, u16At, u32At, u64At}
 use Rattle.sheet.specs.Reading.{formCauses, headerCauses, stepCauses, stepsCauses, recordsOn, stepsOf, readCauses}
 use Rattle.sheet.proofs.Records.{next-first, next-after}

@@ -1,7 +1,7 @@
 -- Laws on what the reader reads: a header that was given is sound, the records of a chain without a fault lie within the sheet, and the reader's
 -- stages decide one after the other.
 use mathlib.Core.Path.{_≡_, refl, sym, ap, ap₂, _∙_, subst}
-use mathlib.Core.Bool.{Bool, true, false, cond, not}
+use mathlib.Core.Bool.{Bool, true, false, cond}
 use mathlib.Core.List.{List, [], _∷_, _++_, map}
 use Prim.Native.Nat.{ℕ, zero, suc, _+_, _≤_, _<_}
 use native.Mathlib.Omega.{arith}
@@ -12,7 +12,7 @@ use Rattle.units.specs.Limits.{hasFeasible}
 use Rattle.units.specs.Sets.{hasUnitFrom}
 use Rattle.sheet.specs.declared.Header.{Header}
 use Rattle.sheet.specs.declared.Step.{Step}
-use Rattle.sheet.specs.Answer.{Answer, Refused, Given, Cause, unless}
+use Rattle.sheet.specs.Answer.{Answer, Refused, Given, unless}
 use Rattle.sheet.specs.Chain.{following, chainOf, linkCauses, Inside, stepsFrom}
 use Rattle.sheet.specs.Format.{unitLimit, recordLimit, sheetLength, unitsOf, recordsOf, header, nextOf, stepOf}
 use Rattle.sheet.specs.Reading.{formCauses, headerCauses, stepsCauses, recordsOn, stepsOf, readCauses, Campaign, campaignOf, readingOf}

@@ -1,5 +1,5 @@
 -- Laws on the records of a sheet: what the number of the next one is.
-use mathlib.Core.Path.{_≡_, refl, ap, _∙_}
+use mathlib.Core.Path.{_≡_, refl, ap}
 use mathlib.Core.List.{List}
 use Prim.Native.Nat.{ℕ, zero, suc, _+_}
 use Rattle.sheet.specs.Numbers.{u16At}

@@ -1,7 +1,7 @@
 -- The walk's own state: what its marks say, and what a step does to it.
 use Prim.Native.Nat.{ℕ, _+_, _-_, _/_, _%_}
 use mathlib.Core.Bool.{Bool}
-use mathlib.Core.List.{List, [], _∷_}
+use mathlib.Core.List.{[], _∷_}
 use lib.ListN.{getD, set}
 use Rattle.units.specs.Sets.{contains, insert}
 use Rattle.sheet.specs.declared.chain.Walk.{Walk}

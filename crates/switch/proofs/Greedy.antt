@@ -6,7 +6,6 @@ use mathlib.Core.List.{List, [], _∷_}
 use Prim.Native.Nat.{ℕ, _+_, _-_, _≤_, min, max}
 use native.Mathlib.Omega.{arith}
 use lib.ListN.{length}
-use Rattle.units.specs.Limits.{hasFeasible}
 use Rattle.units.specs.Sets.{bit, union, intersection, difference, Subset, size}
 use Rattle.units.proofs.Limits.{some-feasible}
 use Rattle.units.proofs.Sets.{bit-le, bit-cases, bit-union, bit-intersection, bit-difference, set-ext, size-split, size-mono, size-remove}

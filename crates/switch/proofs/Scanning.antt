@@ -1,5 +1,5 @@
 -- The scan over the steps that finds the first units of a set in the ranking.
-use mathlib.Core.Path.{_≡_, refl, sym, ap, _∙_, subst}
+use mathlib.Core.Path.{_≡_, refl, sym, ap, _∙_}
 use mathlib.Core.Bool.{Bool, true, false}
 use mathlib.Core.List.{List, [], _∷_}
 use Prim.Native.Nat.{ℕ, zero, suc, _+_, _-_, _≤_, _<_}
@@ -12,8 +12,7 @@ use Rattle.switch.specs.declared.pick.Pick.{Pick}
 use Rattle.switch.specs.Columns.{toward, bare, setsOf, rankingAt}
 use Rattle.switch.specs.Looked.{Looked}
 use Rattle.switch.specs.Support.{nextRequired, nextForbidden, requiredFirst, ranksBefore, taken, tieOrder}
-use Rattle.switch.specs.Switch.{Limits}
-use Rattle.switch.proofs.Orders.{Ordered, ltb-ordered}
+use Rattle.switch.proofs.Orders.{ltb-ordered}
 use Rattle.switch.proofs.Picking.{toward-ordered, taken-same, union-assoc, union-empty, no-units}
 use Rattle.switch.proofs.Ranks.{ranks-ordered}
 

@@ -1,15 +1,14 @@
 -- The three ways in which the set of a step is made: units leave, units join, or neither.
-use mathlib.Core.Path.{_≡_, refl, sym, ap, _∙_}
+use mathlib.Core.Path.{_≡_, sym, ap, _∙_}
 use mathlib.Core.Bool.{Bool, true}
-use Prim.Native.Nat.{ℕ, zero, suc, _-_, _≤_, _<_, min}
+use Prim.Native.Nat.{ℕ, _-_, _≤_, _<_}
 use native.Mathlib.Omega.{arith}
 use Rattle.units.specs.Limits.{Feasible, hasFeasible}
-use Rattle.units.specs.Sets.{bit, union, intersection, difference, Subset, size}
+use Rattle.units.specs.Sets.{union, intersection, difference, size}
 use Rattle.units.proofs.Limits.{some-feasible}
-use Rattle.units.proofs.Sets.{bit-le, bit-union, bit-intersection, bit-difference, bit-empty, set-ext, size-mono}
+use Rattle.units.proofs.Sets.{bit-difference, bit-empty, set-ext, size-mono}
 use Rattle.switch.specs.Columns.{toward, limits}
 use Rattle.switch.specs.Support.{taken, supportSet}
-use Rattle.switch.specs.Switch.{Limits, Allows}
 use Rattle.switch.proofs.Chosen.{taken-chosen}
 use Rattle.switch.proofs.Greedy.{size-rest, size-without}
 use Rattle.switch.proofs.Orders.{Ordered, mirror-ordered}

@@ -1,7 +1,7 @@
 -- The machine's operations on words of k bits, as sets: a shifted one is a single unit, and a mask with a complement is a difference.
 use mathlib.Core.Path.{_≡_, refl, sym, ap, _∙_, subst}
 use mathlib.Core.Logic.{_⊎_, inl, inr}
-use mathlib.Core.Bool.{Bool, true, false, not}
+use mathlib.Core.Bool.{not}
 use Prim.Native.Nat.{ℕ, zero, suc, _+_, _-_, _*_, _/_, _%_, _^_, _≤_, _<_, min}
 use native.Mathlib.Nat.{pow-suc, mod-lt, div-eq-of-lt}
 use native.Mathlib.Decide.{ℕ-discrete, decLe}

@@ -14,9 +14,8 @@ use Rattle.sheet.specs.Format.{unitsOf, boundOf, startOf}
 use Rattle.sheet.specs.Reading.{stepsOf}
 use Rattle.sheet.specs.Told.{summaryRead}
 use Rattle.switch.specs.Columns.{columns}
-use Rattle.switch.specs.Plans.{Below, canBeOn, canBeOff}
+use Rattle.switch.specs.Plans.{canBeOn, canBeOff}
 use Rattle.switch.specs.Solved.{Solved}
-use Rattle.switch.specs.Support.{findSupport}
 use Rattle.switch.specs.Switch.{Limits, total}
 use Rattle.switch.proofs.Cells.{cell-count, cell, cell-beyond}
 use Rattle.warm.specs.Entries.{limitsOf, limitsOn, supportOn, written, onWords, offWords}

@@ -1,12 +1,10 @@
 -- What is known of a sheet that was read: its summary's numbers, and its steps as the planner sees them.
 use mathlib.Core.Path.{_≡_, refl, sym, ap, ap₂, _∙_, subst}
-use mathlib.Core.Bool.{true, false}
 use mathlib.Core.List.{List, [], _∷_, _++_, map}
 use Prim.Native.Nat.{ℕ, zero, suc, _-_, _≤_}
 use native.Mathlib.Omega.{arith}
-use lib.ListN.{length, length-map, drop, take}
+use lib.ListN.{length, length-map, take}
 use lib.Seq.{take-at}
-use Rattle.units.specs.Sets.{hasUnitFrom}
 use Rattle.sheet.specs.declared.Step.{Step}
 use Rattle.sheet.specs.declared.Summary.{Summary}
 use Rattle.sheet.specs.Answer.{Given}

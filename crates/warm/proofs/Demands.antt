@@ -6,8 +6,8 @@
 use mathlib.Core.Path.{_≡_, refl, sym, ap, _∙_}
 use mathlib.Core.Logic.{_↔_, _⊎_, inl, inr}
 use mathlib.Core.Bool.{true}
-use mathlib.Core.List.{List, [], _∷_, _++_, map}
-use Prim.Native.Nat.{ℕ, suc, _+_, _≤_, _<_, min}
+use mathlib.Core.List.{List, [], _++_, map}
+use Prim.Native.Nat.{ℕ, suc, _+_, _≤_, min}
 use native.Mathlib.Omega.{arith}
 use lib.ListN.{length, drop}
 use Rattle.units.specs.Limits.{Feasible, hasFeasible}
@@ -22,8 +22,8 @@ use Rattle.sheet.proofs.Agreements.{same-causes, same-units, same-bound, same-s
 use Rattle.sheet.proofs.Answers.{first-decided, first-refuses, none-holds, numbered-first, numbered-append, Numbered}
 use Rattle.sheet.proofs.Chains.{chain-is-long-enough}
 use Rattle.sheet.proofs.Readings.{numbered-read}
-use Rattle.switch.specs.Switch.{FeasiblePlan, total}
-use Rattle.warm.specs.Entries.{placesCauses, stepsRefusals, stepsReply, stepsWritten, warmSteps, limitsOn, fewestOn, supportOn, boundCauses, written, refusedReply, fullReply, planRefusals, planned, warmPlan, onWords, offWords, charted, warmChart, wordsCauses, verdictRefusals, accepts, judged, warmVerdict}
+use Rattle.switch.specs.Switch.{total}
+use Rattle.warm.specs.Entries.{placesCauses, stepsRefusals, stepsReply, stepsWritten, warmSteps, fewestOn, supportOn, boundCauses, written, refusedReply, fullReply, planRefusals, planned, warmPlan, onWords, offWords, charted, warmChart, wordsCauses, verdictRefusals, accepts, judged, warmVerdict}
 use Rattle.warm.specs.Statements.{Exact, Alike, Passes, Meets, Heart}
 use Rattle.warm.proofs.Plans.{passed, plan-fewest, plan-length, over-bound, in-bound, plan-open}
 use Rattle.warm.proofs.Charts.{on-length, off-length, on-cells, off-cells, no-others}

@@ -1,6 +1,5 @@
 -- The worked examples hold: each row is computed from the definitions.
 use mathlib.Core.Path.{refl}
-use mathlib.Core.List.{_++_}
 use Rattle.units.specs.Limits.{hasFeasible}
 use Rattle.units.specs.Sets.{bit, union, intersection, difference, contains, insert, remove, isSubset, size, unitsBelow, hasUnitFrom}
 use Rattle.sheet.specs.Answer.{unless}

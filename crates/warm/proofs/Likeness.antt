@@ -1,18 +1,18 @@
 -- Sheets that are alike get the same plan, chart and verdict: all three are made from what is alike.
-use mathlib.Core.Path.{_≡_, refl, sym, ap, _∙_}
+use mathlib.Core.Path.{_≡_, sym, ap, _∙_}
 use mathlib.Core.Bool.{cond, not, _&&_}
 use mathlib.Core.List.{List, [], _∷_, _++_, map, map-map}
 use Prim.Native.Nat.{ℕ, min}
 use lib.Dec.{ltb, leb, eqb}
-use lib.ListN.{length, length-map}
+use lib.ListN.{length}
 use Rattle.sheet.specs.Agreement.{untagged}
-use Rattle.sheet.specs.Answer.{Given, Cause, cause, unless}
+use Rattle.sheet.specs.Answer.{Given, cause, unless}
 use Rattle.sheet.specs.Format.{startOf}
 use Rattle.sheet.specs.Reading.{stepsOf, campaignOf}
 use Rattle.switch.specs.Plans.{isFeasible, fewest, canBeOn, canBeOff}
 use Rattle.switch.specs.Support.{findSupport}
-use Rattle.switch.specs.Switch.{Limits, total}
-use Rattle.warm.specs.Entries.{limitsOf, limitsOn, fewestOn, supportOn, written, refusedReply, fullReply, planRefusals, planAnswer, planned, warmPlan, onWords, offWords, charted, warmChart, verdictRefusals, accepts, judged, warmVerdict}
+use Rattle.switch.specs.Switch.{total}
+use Rattle.warm.specs.Entries.{limitsOf, limitsOn, fewestOn, supportOn, fullReply, planRefusals, planAnswer, planned, warmPlan, onWords, offWords, charted, warmChart, verdictRefusals, accepts, judged, warmVerdict}
 use Rattle.warm.specs.Statements.{Alike}
 use Rattle.warm.proofs.Steps.{alike-many}
 

@@ -1,7 +1,6 @@
 -- Laws on the answer of `warm_plan`: what it is by what the reader says, by the output's places and by the bound. The total that is compared with the
 -- bound is FindSupport's, which no feasible plan undercuts, so that it is the fewest.
 use mathlib.Core.Path.{_≡_, refl, sym, ap, ap₂, _∙_}
-use mathlib.Core.Bool.{true, false}
 use mathlib.Core.List.{List, [], _∷_, _++_, map}
 use Prim.Native.Nat.{ℕ, suc, _+_, _≤_, _<_, _^_}
 use native.Mathlib.Omega.{arith}
@@ -21,7 +20,7 @@ use Rattle.switch.specs.Plans.{Below}
 use Rattle.switch.specs.Support.{supportFrom, findSupport}
 use Rattle.switch.specs.Switch.{Limits, FeasiblePlan, total}
 use Rattle.switch.proofs.Fewest.{support-fewest}
-use Rattle.warm.specs.Entries.{limitsOf, limitsOn, fewestOn, supportOn, boundCauses, placesCauses, written, planRefusals, planAnswer, planned}
+use Rattle.warm.specs.Entries.{limitsOf, limitsOn, fewestOn, supportOn, boundCauses, placesCauses, written, planRefusals, planAnswer}
 use Rattle.warm.specs.Statements.{Passes}
 use Rattle.warm.proofs.Decoded.{many-steps, faultless, satisfiable}
 

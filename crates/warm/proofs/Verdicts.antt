@@ -9,7 +9,7 @@ use lib.Dec.{leb}
 use lib.ListN.{length}
 use borrow.Author.Tests.{eq-eqb, ne-eqb, leb-true, le-leb}
 use Rattle.sheet.specs.declared.Summary.{Summary}
-use Rattle.sheet.specs.Answer.{Answer, Refused, Given, Cause, cause, unless}
+use Rattle.sheet.specs.Answer.{Refused, Given, unless}
 use Rattle.sheet.specs.Format.{boundOf, startOf}
 use Rattle.sheet.specs.Reading.{stepsOf, readCauses, campaignOf}
 use Rattle.sheet.specs.Told.{summaryOf, summaryRead}

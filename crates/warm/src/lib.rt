@@ -1,8 +1,8 @@
 // The entries that buyers call, over lent bytes and lent buffers. Each has no `requires`, and one `ensures` that equates its reply and
 // all lent memory with a definition of specs/Entries.antt, for any input. docs/FORMAT.md has the sheet and the refusal table.
-mod charting;
-mod judging;
-mod planning;
+pub mod charting;
+pub mod judging;
+pub mod planning;
 
 use sheet::ReadAnswer;
 use sheet::Step;

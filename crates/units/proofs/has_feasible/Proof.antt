@@ -1,12 +1,11 @@
 -- `units::has_feasible` meets its contract: each way out rewrites the test's parts by what the tests before it found.
-use mathlib.Core.Path.{_≡_, sym, _∙_}
-use mathlib.Core.Bool.{true, false}
+use mathlib.Core.Path.{sym, _∙_}
 use borrow.Author.Needs.{needs}
 use borrow.Author.Tests.{le-leb, lt-leb, not-true, not-false}
 use native.Mathlib.Omega.{arith}
 use Prim.Native.Nat.{_≤_, _<_}
 use Rattle.units.specs.Limits.{hasFeasible}
-use Rattle.units.specs.Sets.{size, isSubset}
+use Rattle.units.specs.Sets.{size}
 use Rattle.units.proofs.has_feasible.Statement.{statement}
 use Rattle.units.proofs.has_feasible.Tie as tie
 

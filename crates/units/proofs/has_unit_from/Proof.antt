@@ -1,6 +1,6 @@
 -- `units::has_unit_from` meets its contract: a u64 has no unit from 64 up, and a shift by d leaves nothing exactly if the set is below 2 ^ d.
 use mathlib.Core.Path.{sym, ap, _∙_}
-use Prim.Native.Nat.{ℕ, _^_, _≤_}
+use Prim.Native.Nat.{ℕ, _^_}
 use borrow.Author.Needs.{needs}
 use borrow.Author.Tests.{lt-leb}
 use native.Mathlib.Omega.{arith}

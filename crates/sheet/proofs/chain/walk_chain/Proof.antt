@@ -1,7 +1,7 @@
 -- `sheet::chain::walk_chain` meets its contract. The loop's invariant is `Walked`: the state says what the definition has met so far, and what
 -- the definition still has to look at is the whole chain. The measure is the number of records not yet met, and one.
-use mathlib.Core.Path.{_≡_, sym, ap, _∙_}
-use Prim.Native.Nat.{ℕ, suc, _-_}
+use mathlib.Core.Path.{sym, ap, _∙_}
+use Prim.Native.Nat.{suc, _-_}
 use native.Mathlib.Omega.{arith}
 use borrow.Author.Needs.{needs}
 use denote.Ref.{now}

@@ -2,7 +2,6 @@
 use mathlib.Core.Path.{_≡_}
 use Prim.Native.Nat.{_-_}
 use native.Mathlib.Omega.{arith}
-use borrow.Author.Needs.{needs}
 use denote.Ref.{now}
 use Rattle.sheet.proofs.Filling.{Along, along-begun, inside-now, along-on, Filling, fill-begun, fill-on, fill-done}
 use Rattle.sheet.proofs.columns.fill_columns.Statement.{statement}

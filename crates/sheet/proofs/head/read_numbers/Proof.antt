@@ -10,7 +10,6 @@ use lib.ListN.{length}
 use mathlib.Core.List.{List, []}
 use Rattle.sheet.specs.Answer.{Given, unless}
 use Rattle.sheet.specs.Format.{unitLimit, recordLimit, sheetLength, unitsOf, recordsOf, reservedOf, boundOf, startOf, header}
-use Rattle.sheet.specs.Reading.{headerCauses}
 use Rattle.sheet.proofs.Answers.{refused-by, passed-by}
 use Rattle.sheet.proofs.head.read_numbers.Statement.{statement}
 use Rattle.sheet.proofs.head.read_numbers.Tie as tie

@@ -1,11 +1,9 @@
 -- `sheet::record::follow` meets its contract.
-use mathlib.Core.Path.{_≡_, sym, ap, _∙_}
+use mathlib.Core.Path.{sym, ap, _∙_}
 use Prim.Native.Nat.{ℕ, _+_}
-use native.Mathlib.Omega.{arith}
 use borrow.Author.Needs.{needs}
 use denote.Ref.{now}
 use Rattle.sheet.specs.Numbers.{u16At}
-use Rattle.sheet.specs.Format.{nextOf}
 use Rattle.sheet.proofs.Records.{next-first, next-after}
 use Rattle.sheet.proofs.record.follow.Statement.{statement}
 use Rattle.sheet.proofs.record.follow.Tie as tie

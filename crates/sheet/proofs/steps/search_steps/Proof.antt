@@ -1,5 +1,5 @@
 -- `sheet::steps::search_steps` meets its contract. The loop's invariant is `Searched`: the steps so far are sound, and those still to come decide.
-use mathlib.Core.Path.{_≡_, sym, ap, _∙_}
+use mathlib.Core.Path.{sym, ap, _∙_}
 use Prim.Native.Nat.{_-_}
 use native.Mathlib.Omega.{arith}
 use borrow.Author.Needs.{needs}

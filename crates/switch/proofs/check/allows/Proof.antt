@@ -1,10 +1,9 @@
 -- `switch::check::allows` meets its contract: each way out rewrites the test's parts by what the tests before it found.
-use mathlib.Core.Path.{sym, ap, _∙_}
-use Prim.Native.Nat.{ℕ, _≤_, _<_}
+use mathlib.Core.Path.{sym, _∙_}
+use Prim.Native.Nat.{_<_}
 use native.Mathlib.Omega.{arith}
 use borrow.Author.Needs.{needs}
 use borrow.Author.Tests.{le-leb, lt-leb, not-true, not-false}
-use lib.Dec.{leb}
 use Rattle.units.specs.Sets.{size}
 use Rattle.switch.specs.Plans.{allows}
 use Rattle.switch.proofs.check.allows.Statement.{statement}

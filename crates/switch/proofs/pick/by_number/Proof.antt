@@ -1,5 +1,5 @@
 -- `switch::pick::by_number` meets its contract. The loop's invariant: what has been found with what is still to be found is all, and the rest is a word.
-use mathlib.Core.Path.{_≡_, sym, subst₂}
+use mathlib.Core.Path.{sym, subst₂}
 use Prim.Native.Nat.{ℕ, _-_, _^_, _<_}
 use native.Mathlib.Omega.{arith}
 use borrow.Author.Needs.{needs}

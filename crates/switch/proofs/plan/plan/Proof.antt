@@ -1,6 +1,6 @@
 -- `switch::plan::plan` meets its contract. The loop's invariant is `Planned`: the first i places are written, and with the plan from there on they are the
 -- whole plan; the switches so far, with those still to come, are its total.
-use mathlib.Core.Path.{_≡_, ap, _∙_}
+use mathlib.Core.Path.{ap, _∙_}
 use mathlib.Core.Bool.{Bool}
 use Prim.Native.Nat.{ℕ, _-_, _≤_}
 use native.Mathlib.Omega.{arith}

@@ -1,6 +1,5 @@
 -- `warm::judging::yes_or_no` meets its contract.
 use borrow.Author.Tests.{le-leb, lt-leb, not-true, not-false}
-use borrow.Author.Needs.{needs}
 use Rattle.warm.proofs.judging.yes_or_no.Statement.{statement}
 use Rattle.warm.proofs.judging.yes_or_no.Tie as tie
 use Rattle.warm.proofs.judging.yes_or_no.Reads as reads

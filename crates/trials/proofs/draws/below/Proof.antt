@@ -1,8 +1,8 @@
--- `cases::draws::below` meets its contract: a remainder is below its divisor.
+-- `trials::draws::below` meets its contract: a remainder is below its divisor.
 use native.Mathlib.Nat.{mod-lt}
 use borrow.Author.Needs.{needs}
-use Rattle.cases.proofs.draws.below.Statement.{statement}
-use Rattle.cases.proofs.draws.below.Tie as tie
+use Rattle.trials.proofs.draws.below.Statement.{statement}
+use Rattle.trials.proofs.draws.below.Tie as tie
 
 drawn-requires : tie.Need-drawn-requires
 drawn-requires c κs = search needs
