@@ -17,8 +17,15 @@
  *   6        a step's upper set has a unit that the sheet has not               the step, from 1
  *   7        no set of units is allowed in a step                               the step, from 1
  *   8        a lent output has fewer places than there are steps                the number of steps
+ *   9        the fewest warm-ups that a plan can have exceed the bound          that fewest
+ *   10       a plan that is handed in has not one word for each step            the number of steps
  *
- * The first cause in this order is the one that is given.
+ * The first cause in this order is the one that is given. warm_steps gives 1 to 8, warm_plan and warm_chart give 1 to 9, and warm_verdict gives
+ * 1 to 7 and 10.
+ *
+ * A plan has one word for each step: the set of units that are on. It is allowed if in every step its set includes the lower set, lies within
+ * the upper set, and has a size from the least to the greatest number. Its warm-ups in a step are the units that are on there and off in the
+ * step before; for the first step the start set is the step before. Its total is the sum over all steps.
  *
  * No call allocates, blocks, prints or keeps state: threads may call at will. Buffers are aligned for their type and do not overlap. A pointer
  * may be NULL where its length is 0. The library is for x86-64 Linux, and needs memcpy and memset of its host.
@@ -62,9 +69,40 @@ typedef struct {
 
 /*
  * The steps of a sheet, into the first places of a list. Places after them are left as they are. A list of WARM_STEPS places is always enough.
- * Takes two walks along the chain of records, and one more to fill the list.
+ * Takes two walks along the chain of records, and one more to fill the list. Uses at most 512 bytes of stack.
  */
 warm_steps_reply warm_steps(const uint8_t *sheet, size_t sheet_len, warm_step *steps, size_t steps_len);
+
+typedef struct {
+    uint32_t refusal;  /* 0, or 1 to 10 */
+    uint32_t place;
+    uint32_t total;    /* the warm-ups of the plan that is handed out, charted or judged */
+    uint32_t accepted; /* the verdict: 1 for yes, 0 for no; 0 from the other entries */
+} warm_reply;
+
+/*
+ * A plan with the fewest warm-ups, into the first places of an output, one word for each step. Places after them are left as they are, and so is
+ * the whole output on a refusal. An output of WARM_STEPS places is always enough. Where several plans have as few warm-ups, FindSupport's is handed
+ * out (docs/FORMAT.md), always the same.
+ * Takes three walks along the chain, and for each step at most one look at it and at each step after it: n * (n + 1) / 2 looks for n steps. Uses at
+ * most 7,168 bytes of stack.
+ */
+warm_reply warm_plan(const uint8_t *sheet, size_t sheet_len, uint64_t *plan, size_t plan_len);
+
+/*
+ * For each step the units that can be on and those that can be off, over all allowed plans whose total is at most the bound, into the first places
+ * of two outputs, one word for each step. A unit can be in both words; one that the sheet has not is in neither. Places after them are left as
+ * they are, and so are both outputs on a refusal. Outputs of WARM_STEPS places are always enough. The total is that of warm_plan.
+ * Takes at most the time of d * n + 1 plans, for d units and n steps. Uses at most 8,192 bytes of stack.
+ */
+warm_reply warm_chart(const uint8_t *sheet, size_t sheet_len, uint64_t *on, size_t on_len, uint64_t *off, size_t off_len);
+
+/*
+ * Whether a plan that was made elsewhere is allowed and has a total of at most the bound, and that total, allowed or not. In the total, units that
+ * the sheet has not count like any other. Writes to no lent memory.
+ * Takes three walks along the chain, and one through the plan. Uses at most 5,120 bytes of stack.
+ */
+warm_reply warm_verdict(const uint8_t *sheet, size_t sheet_len, const uint64_t *plan, size_t plan_len);
 
 #ifdef __cplusplus
 }
@@ -75,6 +113,9 @@ _Static_assert(sizeof(warm_step) == 24, "warm_step has 24 bytes");
 _Static_assert(offsetof(warm_step, greatest) == 17 && offsetof(warm_step, tag) == 20, "the fields of warm_step");
 _Static_assert(sizeof(warm_steps_reply) == 32, "warm_steps_reply has 32 bytes");
 _Static_assert(offsetof(warm_steps_reply, start) == 24, "the fields of warm_steps_reply");
+_Static_assert(sizeof(warm_reply) == 16, "warm_reply has 16 bytes");
+_Static_assert(offsetof(warm_reply, place) == 4 && offsetof(warm_reply, total) == 8, "the fields of warm_reply");
+_Static_assert(offsetof(warm_reply, accepted) == 12, "the fields of warm_reply");
 #endif
 
 #endif

@@ -3,57 +3,9 @@
  * length is 0. What each call must reply, and each byte that a list must hold afterwards, is known from how the sheet was made. Ends with
  * status 1 at the first difference.
  */
-#include "warm.h"
-
-#include <stdio.h>
-#include <stdlib.h>
-#include <string.h>
+#include "sheets.h"
 
 enum { PLACES = WARM_STEPS + 2, CANARY = 0xa5 };
-
-static unsigned compared;
-
-static void must(int holds, const char *what)
-{
-    compared++;
-    if (!holds) {
-        printf("wrong: %s\n", what);
-        exit(1);
-    }
-}
-
-/* ---- sheets */
-
-static void put(uint8_t *at, int bytes, uint64_t value)
-{
-    for (int i = 0; i < bytes; i++)
-        at[i] = (uint8_t)(value >> (8 * i));
-}
-
-/* A sheet whose records are the steps in reverse: record r is the first step. */
-static size_t make(uint8_t *sheet, unsigned d, unsigned n, unsigned bound, uint64_t start, const warm_step *steps)
-{
-    memset(sheet, 0, 24);
-    memcpy(sheet, "WARM", 4);
-    sheet[4] = 1;
-    sheet[5] = (uint8_t)d;
-    put(sheet + 6, 2, n);
-    put(sheet + 8, 2, n);
-    put(sheet + 10, 2, bound);
-    put(sheet + 16, 8, start);
-    for (unsigned i = 0; i < n; i++) {
-        uint8_t *record = sheet + 24 * (n - i);
-        put(record, 8, steps[i].lower);
-        put(record + 8, 8, steps[i].upper);
-        record[16] = steps[i].least;
-        record[17] = steps[i].greatest;
-        put(record + 18, 2, n - i - 1);
-        put(record + 20, 4, steps[i].tag);
-    }
-    return 24 * (size_t)(n + 1);
-}
-
-/* ---- calls */
 
 static warm_step list[PLACES], before[PLACES];
 
