@@ -1,5 +1,4 @@
--- A cell of the chart, as the function `cell` decides it (`cell-shown`, `cell-none`, `cell-spare`, `cell-forced`). What `plan` hands out is what the
--- chart is made from (`solved`).
+-- A cell of the chart, as the function `cell` decides it (`cell-shown`, `cell-none`, `cell-spare`, `cell-forced`).
 use mathlib.Core.Path.{_≡_, refl, sym, ap, _∙_}
 use mathlib.Core.Logic.{_↔_}
 use mathlib.Core.Bool.{Bool, true, false, cond, Bool·beq, false≢true}
@@ -8,15 +7,15 @@ use Prim.Native.Nat.{ℕ, zero, suc, _+_, _≤_, _<_}
 use native.Mathlib.Omega.{arith}
 use borrow.Author.Tests.{eqb-true, leb-true, leb-false, eq-eqb, ne-eqb}
 use lib.Dec.{leb}
-use lib.ListN.{length, take, drop, getD, set, length-take, length-set}
-use lib.Seq.{drop-cons, take-at, getD-take}
+use lib.ListN.{length, getD, set, length-take, length-set}
+use lib.Seq.{drop-cons, getD-take}
 use Rattle.units.specs.Limits.{hasFeasible}
 use Rattle.units.specs.Sets.{bit, contains, insert, remove}
 use Rattle.units.proofs.Sets.{outside}
 use Rattle.switch.specs.Columns.{bare, limits, columns, Columns}
-use Rattle.switch.specs.Plans.{Below, canBe}
+use Rattle.switch.specs.Plans.{canBe}
 use Rattle.switch.specs.Solved.{Solved}
-use Rattle.switch.specs.Support.{findSupport, Handed}
+use Rattle.switch.specs.Support.{findSupport}
 use Rattle.switch.specs.Switch.{Limits, FeasiblePlan, total}
 use Rattle.switch.proofs.AllPlans.{Shows, SomePlan, plan-length}
 use Rattle.switch.proofs.Cells.{cell, cell-count}
@@ -37,18 +36,6 @@ module _ {lower upper least greatest : List ℕ} (start : ℕ) (c : Columns lowe
 
   support-long : length supported ≡ length lower
   support-long = plan-length (columns lower upper least greatest) supported support-feasible ∙ steps-length c
-
-  -- a plan within the bound is what the chart is made from
-  pub solved : {d bound sum : ℕ} {before plan : List ℕ} → Below d (columns lower upper least greatest) → d ≤ 64
-      → Handed (columns lower upper least greatest) start before plan sum → sum ≤ bound → Solved lower upper least greatest start d bound sum plan
-  solved {before} b u h k = record {
-    steps = c;
-    below = b;
-    units = u;
-    planned = ap (take (length lower)) (h .written) ∙ take-at supported (drop (length (columns lower upper least greatest)) before) (length lower) support-long;
-    counted = h .counted;
-    within = k;
-  }
 
 module _ {lower upper least greatest plan : List ℕ} {start d bound sum : ℕ} (g : Solved lower upper least greatest start d bound sum plan) where
   -- it has a set for each step

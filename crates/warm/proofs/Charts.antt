@@ -2,7 +2,7 @@
 -- at hand once the plan is.
 use mathlib.Core.Path.{_≡_, sym, ap, ap₂, _∙_}
 use mathlib.Core.Logic.{_↔_}
-use mathlib.Core.Bool.{true, false}
+use mathlib.Core.Bool.{Bool, cond}
 use mathlib.Core.List.{List, _++_, map}
 use Prim.Native.Nat.{ℕ, _≤_, _<_}
 use native.Mathlib.Omega.{arith}
@@ -14,45 +14,34 @@ use Rattle.sheet.specs.Format.{unitsOf, boundOf, startOf}
 use Rattle.sheet.specs.Reading.{stepsOf}
 use Rattle.sheet.specs.Told.{summaryRead}
 use Rattle.switch.specs.Columns.{columns}
-use Rattle.switch.specs.Plans.{canBeOn, canBeOff}
+use Rattle.switch.specs.Plans.{canBe}
 use Rattle.switch.specs.Solved.{Solved}
 use Rattle.switch.specs.Switch.{Limits, total}
 use Rattle.switch.proofs.Cells.{cell-count, cell, cell-beyond}
-use Rattle.warm.specs.Entries.{limitsOf, limitsOn, supportOn, written, onWords, offWords}
+use Rattle.warm.specs.Entries.{limitsOf, limitsOn, supportOn, written}
 use Rattle.warm.specs.Statements.{SomePlanHas}
 use Rattle.warm.proofs.Decoded.{many-steps, start-is, bound-is, units-are, few-units, columns-are, columns-sound}
 use Rattle.warm.proofs.Plans.{uppers-below}
 
 module _ (s : List ℕ) where
-  pub on-length : length (onWords s) ≡ length (stepsOf s)
-  unfolding onWords
-  on-length = cell-count (unitsOf s) (boundOf s) (startOf s) (limitsOn s) true ∙ length-map (stepsOf s) limitsOf
+  -- the units that can be on in each step, or those that can be off
+  abbrev pub wordsOf : Bool → List ℕ
+  wordsOf on = canBe on (unitsOf s) (boundOf s) (startOf s) (limitsOn s)
 
-  pub off-length : length (offWords s) ≡ length (stepsOf s)
-  unfolding offWords
-  off-length = cell-count (unitsOf s) (boundOf s) (startOf s) (limitsOn s) false ∙ length-map (stepsOf s) limitsOf
+  pub words-length : (on : Bool) → length (wordsOf on) ≡ length (stepsOf s)
+  words-length on = cell-count (unitsOf s) (boundOf s) (startOf s) (limitsOn s) on ∙ length-map (stepsOf s) limitsOf
 
-  module _ {x : Summary} (e : summaryRead s ≡ Given x) (i u : ℕ) (l : i < length (stepsOf s)) where
+  module _ {x : Summary} (e : summaryRead s ≡ Given x) (i u : ℕ) (l : i < length (stepsOf s)) (on : Bool) where
     among : i < length (limitsOn s)
     among = omega (arith, length-map (stepsOf s) limitsOf)
 
-    pub on-cells : u < unitsOf s → (bit (getD (onWords s) i 0) u ≡ 1) ↔ SomePlanHas s i u 1
-    unfolding onWords
-    on-cells k =
-        let c = cell (unitsOf s) (boundOf s) (startOf s) (limitsOn s) i u among (uppers-below s e) true k in
+    pub words-cells : u < unitsOf s → (bit (getD (wordsOf on) i 0) u ≡ 1) ↔ SomePlanHas s i u (cond on 1 0)
+    words-cells k =
+        let c = cell (unitsOf s) (boundOf s) (startOf s) (limitsOn s) i u among (uppers-below s e) on k in
         (λ h. let (p, (f, (b, o))) = c .0 h in (p, ((f, b), o)), λ (p, ((f, b), o)). c .1 (p, (f, (b, o))))
 
-    pub off-cells : u < unitsOf s → (bit (getD (offWords s) i 0) u ≡ 1) ↔ SomePlanHas s i u 0
-    unfolding offWords
-    off-cells k =
-        let c = cell (unitsOf s) (boundOf s) (startOf s) (limitsOn s) i u among (uppers-below s e) false k in
-        (λ h. let (p, (f, (b, o))) = c .0 h in (p, ((f, b), o)), λ (p, ((f, b), o)). c .1 (p, (f, (b, o))))
-
-    pub no-others : unitsOf s ≤ u → (bit (getD (onWords s) i 0) u ≡ 0) × (bit (getD (offWords s) i 0) u ≡ 0)
-    unfolding onWords offWords
-    no-others k =
-        let beyond = cell-beyond (unitsOf s) (boundOf s) (startOf s) (limitsOn s) i u among (uppers-below s e) in
-        (beyond true k, beyond false k)
+    pub no-others : unitsOf s ≤ u → bit (getD (wordsOf on) i 0) u ≡ 0
+    no-others k = cell-beyond (unitsOf s) (boundOf s) (startOf s) (limitsOn s) i u among (uppers-below s e) on k
 
 -- what the chart is made from, once the plan is made and within the bound
 pub chart-solved : (s : List ℕ) {x : Summary} (e : summaryRead s ≡ Given x) {sets : List ℕ} {many : ℕ}
@@ -79,19 +68,8 @@ module _ (s : List ℕ) {x : Summary} (e : summaryRead s ≡ Given x) where
   abbrev pub long : ℕ
   long = length (map (λ y. y .lower) (stepsOf s))
 
-  placed : (words all out : List ℕ) → words ≡ all → length all ≡ length (stepsOf s) → words ++ drop long out ≡ written all out
-  placed words all out same many = ap₂ (λ l (k : ℕ). l ++ drop k out) same (length-map (stepsOf s) (λ y. y .lower) ∙ sym many)
-
-  pub on-written : (out : List ℕ) → canBeOn (x .units) (x .bound) (x .start) decoded ++ drop long out ≡ written (onWords s) out
-  unfolding onWords
-  on-written out =
-      placed (canBeOn (x .units) (x .bound) (x .start) decoded) (onWords s) out
-      (λ i. canBeOn (units-are s e i) (bound-is s e i) (start-is s e i) (columns-are s e i))
-      (on-length s)
-
-  pub off-written : (out : List ℕ) → canBeOff (x .units) (x .bound) (x .start) decoded ++ drop long out ≡ written (offWords s) out
-  unfolding offWords
-  off-written out =
-      placed (canBeOff (x .units) (x .bound) (x .start) decoded) (offWords s) out
-      (λ i. canBeOff (units-are s e i) (bound-is s e i) (start-is s e i) (columns-are s e i))
-      (off-length s)
+  pub words-written : (on : Bool) (out : List ℕ) → canBe on (x .units) (x .bound) (x .start) decoded ++ drop long out ≡ written (wordsOf s on) out
+  words-written on out =
+      ap₂ (λ l (k : ℕ). l ++ drop k out)
+      (λ i. canBe on (units-are s e i) (bound-is s e i) (start-is s e i) (columns-are s e i))
+      (length-map (stepsOf s) (λ y. y .lower) ∙ sym (words-length s on))

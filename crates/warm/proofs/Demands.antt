@@ -5,7 +5,7 @@
 -- list of causes that stands in the statement: `stepsRefusals`, and `readCauses` in it, are one line for each cause, in the order of the checks.
 use mathlib.Core.Path.{_≡_, refl, sym, ap, _∙_}
 use mathlib.Core.Logic.{_↔_, _⊎_, inl, inr}
-use mathlib.Core.Bool.{true}
+use mathlib.Core.Bool.{true, false}
 use mathlib.Core.List.{List, [], _++_, map}
 use Prim.Native.Nat.{ℕ, suc, _+_, _≤_, min}
 use native.Mathlib.Omega.{arith}
@@ -26,7 +26,7 @@ use Rattle.switch.specs.Switch.{total}
 use Rattle.warm.specs.Entries.{placesCauses, stepsRefusals, stepsReply, stepsWritten, warmSteps, fewestOn, supportOn, boundCauses, written, refusedReply, fullReply, planRefusals, planned, warmPlan, onWords, offWords, charted, warmChart, wordsCauses, verdictRefusals, accepts, judged, warmVerdict}
 use Rattle.warm.specs.Statements.{Exact, Alike, Passes, Meets, Heart}
 use Rattle.warm.proofs.Plans.{passed, plan-fewest, plan-length, over-bound, in-bound, plan-open}
-use Rattle.warm.proofs.Charts.{on-length, off-length, on-cells, off-cells, no-others}
+use Rattle.warm.proofs.Charts.{words-length, words-cells, no-others}
 use Rattle.warm.proofs.Likeness.{alike-plan, alike-chart, alike-verdict}
 use Rattle.warm.proofs.Verdicts.{verdict-given, accepts-exactly, turned-down}
 use Rattle.warm.proofs.Steps.{alike-answer, alike-reply, alike-written}
@@ -136,7 +136,7 @@ demand-2-plan s out ok room bound =
 pub demand-3 : (s plan on off : List ℕ) → Passes s
     → length (stepsOf s) ≤ length plan → length (stepsOf s) ≤ length on → length (stepsOf s) ≤ length off
     → Heart s plan on off (total (startOf s) (supportOn s))
-unfolding warmPlan planned warmChart charted campaignOf
+unfolding warmPlan planned warmChart charted campaignOf onWords offWords
 demand-3 s plan on off ok plan-room on-room off-room =
     let e = passed s ok in
     let best = plan-fewest s e in
@@ -148,11 +148,11 @@ demand-3 s plan on off ok plan-room on-room off-room =
       chartOver = λ h. ap drawn (sym (over-bound s e h ∙ plan-open s (min (length on) (length off)) e (omega arith)));
       planWithin = λ h. ap (planned (startOf s) plan) (sym (in-bound s e h (Given (supportOn s)) ∙ plan-open s (length plan) e plan-room));
       chartWithin = λ h. ap drawn (sym (in-bound s e h (Given (supportOn s)) ∙ plan-open s (min (length on) (length off)) e (omega arith)));
-      onLength = on-length s;
-      offLength = off-length s;
-      onCells = on-cells s e;
-      offCells = off-cells s e;
-      noOthers = no-others s e;
+      onLength = words-length s true;
+      offLength = words-length s false;
+      onCells = λ i u l. words-cells s e i u l true;
+      offCells = λ i u l. words-cells s e i u l false;
+      noOthers = λ i u l k. (no-others s e i u l true k, no-others s e i u l false k);
     }
 
 -- what row 7 of the table tests: it holds of a step exactly if no set is feasible there

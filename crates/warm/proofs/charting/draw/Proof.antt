@@ -1,10 +1,12 @@
 -- `warm::charting::draw` meets its contract: the columns that it fills are the steps of the sheet, and the plan is theirs.
+use mathlib.Core.Bool.{true, false}
 use mathlib.Core.Path.{_∙_}
 use native.Mathlib.Omega.{arith}
 use denote.Ref.{now}
 use lib.ListN.{length-map}
 use Rattle.sheet.specs.Reading.{stepsOf}
-use Rattle.warm.proofs.Charts.{chart-solved, on-written, off-written}
+use Rattle.warm.specs.Entries.{onWords, offWords}
+use Rattle.warm.proofs.Charts.{chart-solved, words-written}
 use Rattle.warm.proofs.Decoded.{few-steps, inside-steps, many-steps, part-is}
 use borrow.Author.Needs.{needs}
 use Rattle.warm.proofs.charting.draw.Statement.{statement}
@@ -94,6 +96,7 @@ same-length-2 : tie.Need-same-length-2
 same-length-2 c = search needs
 
 returns : tie.Need-returns
+unfolding onWords offWords
 returns c =
     let s = now (c .before .before .before .before .before .before .before .before .before .before .before .before .before .before .before .before .before .before .before .before .before .before .before .before .before .before .before .before .before .args .sheet) in
     let given = c .before .before .before .before .before .before .before .before .before .before .before .before .before .before .before .before .before .before .before .before .before .before .before .before .before .before .before .before .before .pre in
@@ -104,7 +107,7 @@ returns c =
     let least = part-is s e (λ y. y .least) _ (filled .1 .1 .0) in
     let greatest = part-is s e (λ y. y .greatest) _ (filled .1 .1 .1) in
     let drawn = rw (lower, upper, least, greatest) at (c .before .before .before .before .before .before .chart .ensures) in
-    (drawn .0 ∙ on-written s e _, drawn .1 .0 ∙ off-written s e _)
+    (drawn .0 ∙ words-written s e true _, drawn .1 .0 ∙ words-written s e false _)
 
 pub draw-spec : {M : Type 1} → statement M
 draw-spec =
