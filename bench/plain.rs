@@ -1,39 +1,38 @@
-// The plan of a campaign sheet in plain Rust: the same checks, the same scan of the steps ahead on whole words and the same reply as warm_plan.
-// bench/plan.c calls it as plain_plan.
-#![crate_type = "staticlib"]
-
-const STEPS: usize = 256;
-
-#[repr(C)]
-pub struct Reply {
-    refusal: u32,
-    place: u32,
-    total: u32,
-    accepted: u32,
-}
+// The four entries in plain Rust: the same checks, walks, scans and replies as the library, for comparison. docs/FORMAT.md has the sheet,
+// the refusals and the planner. The chart is in plain_chart.rs; it uses the columns of the plan, where the library fills them twice.
+#![forbid(unsafe_code)]
+use crate::library::{Reply, Step, StepsReply, STEPS};
+use crate::plain_chart;
 
 struct Refusal(u32, u32);
 
-struct Campaign {
-    n: usize,
-    bound: u32,
-    start: u64,
-    lower: [u64; STEPS],
-    upper: [u64; STEPS],
-    least: [u8; STEPS],
-    greatest: [u8; STEPS],
+// What a sheet says, but for its steps.
+pub struct Summary {
+    pub n: usize,
+    pub units: u32,
+    pub bound: u32,
+    pub start: u64,
 }
+
+pub struct Columns {
+    pub lower: [u64; STEPS],
+    pub upper: [u64; STEPS],
+    pub least: [u8; STEPS],
+    pub greatest: [u8; STEPS],
+}
+
+// ---- the sheet
 
 fn u16_at(s: &[u8], at: usize) -> usize {
     u16::from_le_bytes(s[at..at + 2].try_into().unwrap()) as usize
 }
 
-fn u64_at(s: &[u8], at: usize) -> u64 {
-    u64::from_le_bytes(s[at..at + 8].try_into().unwrap())
+fn u32_at(s: &[u8], at: usize) -> u32 {
+    u32::from_le_bytes(s[at..at + 4].try_into().unwrap())
 }
 
-fn has_unit_from(set: u64, d: u32) -> bool {
-    d < 64 && set >> d != 0
+fn u64_at(s: &[u8], at: usize) -> u64 {
+    u64::from_le_bytes(s[at..at + 8].try_into().unwrap())
 }
 
 // The number of the record after record j, or of the first one where j is 0.
@@ -41,6 +40,20 @@ fn follow(s: &[u8], j: usize) -> usize {
     u16_at(s, if j == 0 { 8 } else { 24 * j + 18 })
 }
 
+fn step_at(s: &[u8], j: usize) -> Step {
+    let record = &s[24 * j..24 * j + 24];
+    Step { lower: u64_at(record, 0), upper: u64_at(record, 8), least: record[16], greatest: record[17], tag: u32_at(record, 20) }
+}
+
+fn has_unit_from(set: u64, d: u32) -> bool {
+    d < 64 && set >> d != 0
+}
+
+pub fn has_feasible(lower: u64, upper: u64, least: u8, greatest: u8) -> bool {
+    lower & !upper == 0 && least <= greatest && lower.count_ones() <= greatest as u32 && least as u32 <= upper.count_ones()
+}
+
+// Refusals 1 to 3.
 fn check_header(s: &[u8]) -> Result<(), Refusal> {
     if s.len() < 24 || s.len() > 24 * (STEPS + 1) {
         return Err(Refusal(1, 0));
@@ -51,17 +64,17 @@ fn check_header(s: &[u8]) -> Result<(), Refusal> {
     if s[4] != 1 {
         return Err(Refusal(2, 4));
     }
-    let (d, records) = (s[5] as u32, u16_at(s, 6));
-    if d == 0 || d > 64 {
+    let (units, records) = (s[5] as u32, u16_at(s, 6));
+    if units == 0 || units > 64 {
         return Err(Refusal(3, 5));
     }
     if records > STEPS {
         return Err(Refusal(3, 6));
     }
-    if s[12..16] != [0; 4] {
+    if u32_at(s, 12) != 0 {
         return Err(Refusal(3, 12));
     }
-    if has_unit_from(u64_at(s, 16), d) {
+    if has_unit_from(u64_at(s, 16), units) {
         return Err(Refusal(3, 16));
     }
     if s.len() != 24 * (records + 1) {
@@ -70,9 +83,8 @@ fn check_header(s: &[u8]) -> Result<(), Refusal> {
     Ok(())
 }
 
-// How many records are on the chain.
-fn walk(s: &[u8]) -> Result<usize, Refusal> {
-    let records = u16_at(s, 6);
+// Refusals 4 and 5, or how many records are on the chain.
+fn walk(s: &[u8], records: usize) -> Result<usize, Refusal> {
     let mut marks = [0u64; 4];
     let (mut at, mut n) = (0, 0);
     loop {
@@ -93,38 +105,46 @@ fn walk(s: &[u8]) -> Result<usize, Refusal> {
     }
 }
 
-// The steps as columns, or the refusal of the first faulty one.
-fn read(s: &[u8]) -> Result<Campaign, Refusal> {
+// Refusals 6 and 7.
+fn check_steps(s: &[u8], n: usize, units: u32) -> Result<(), Refusal> {
+    let mut at = 0;
+    for i in 1..=n as u32 {
+        at = follow(s, at);
+        let x = step_at(s, at);
+        if has_unit_from(x.upper, units) {
+            return Err(Refusal(6, i));
+        }
+        if !has_feasible(x.lower, x.upper, x.least, x.greatest) {
+            return Err(Refusal(7, i));
+        }
+    }
+    Ok(())
+}
+
+fn read(s: &[u8]) -> Result<Summary, Refusal> {
     check_header(s)?;
-    let d = s[5] as u32;
-    let n = walk(s)?;
-    let mut c = Campaign {
-        n,
-        bound: u16_at(s, 10) as u32,
-        start: u64_at(s, 16),
-        lower: [0; STEPS],
-        upper: [0; STEPS],
-        least: [0; STEPS],
-        greatest: [0; STEPS],
-    };
+    let units = s[5] as u32;
+    let n = walk(s, u16_at(s, 6))?;
+    check_steps(s, n, units)?;
+    Ok(Summary { n, units, bound: u16_at(s, 10) as u32, start: u64_at(s, 16) })
+}
+
+// The steps of a sheet that was read, as columns.
+fn columns(s: &[u8], n: usize) -> Columns {
+    let mut c = Columns { lower: [0; STEPS], upper: [0; STEPS], least: [0; STEPS], greatest: [0; STEPS] };
     let mut at = 0;
     for i in 0..n {
         at = follow(s, at);
-        let record = &s[24 * at..24 * at + 24];
-        let (lower, upper, least, greatest) = (u64_at(record, 0), u64_at(record, 8), record[16], record[17]);
-        if has_unit_from(upper, d) {
-            return Err(Refusal(6, i as u32 + 1));
-        }
-        if lower & !upper != 0 || greatest < least || lower.count_ones() > greatest as u32 || upper.count_ones() < least as u32 {
-            return Err(Refusal(7, i as u32 + 1));
-        }
-        c.lower[i] = lower;
-        c.upper[i] = upper;
-        c.least[i] = least;
-        c.greatest[i] = greatest;
+        let x = step_at(s, at);
+        c.lower[i] = x.lower;
+        c.upper[i] = x.upper;
+        c.least[i] = x.least;
+        c.greatest[i] = x.greatest;
     }
-    Ok(c)
+    c
 }
+
+// ---- the planner
 
 // The k lowest units of a set, or the k highest.
 fn by_number(mut rest: u64, k: u32, last: bool) -> u64 {
@@ -160,19 +180,26 @@ fn by_rank(lower: &[u64], upper: &[u64], set: u64, k: u32, last: bool) -> u64 {
     found | by_number(rest, left, last)
 }
 
+// What is on in the first of the given steps, where `before` was on.
+pub fn step_set(lower: &[u64], upper: &[u64], least: u8, greatest: u8, before: u64) -> u64 {
+    let (must, may) = (lower[0], upper[0]);
+    let begun = before & may | must;
+    let (many, fewest, most) = (begun.count_ones(), least as u32, greatest as u32);
+    if many > most {
+        begun & !by_rank(lower, upper, begun & !must, many - most, true)
+    } else if many < fewest {
+        begun | by_rank(lower, upper, may & !begun, fewest - many, false)
+    } else {
+        begun
+    }
+}
+
 // Fills the plan, and gives its total.
-fn plan(c: &Campaign, out: &mut [u64]) -> u32 {
-    let (lower, upper) = (&c.lower[..c.n], &c.upper[..c.n]);
-    let (mut before, mut total) = (c.start, 0);
-    for i in 0..c.n {
-        let (least, greatest) = (c.least[i] as u32, c.greatest[i] as u32);
-        let mut set = before & upper[i] | lower[i];
-        let many = set.count_ones();
-        if many > greatest {
-            set &= !by_rank(&lower[i..], &upper[i..], set & !lower[i], many - greatest, true);
-        } else if many < least {
-            set |= by_rank(&lower[i..], &upper[i..], upper[i] & !set, least - many, false);
-        }
+fn make_plan(c: &Columns, x: &Summary, out: &mut [u64]) -> u32 {
+    let (lower, upper) = (&c.lower[..x.n], &c.upper[..x.n]);
+    let (mut before, mut total) = (x.start, 0);
+    for i in 0..x.n {
+        let set = step_set(&lower[i..], &upper[i..], c.least[i], c.greatest[i], before);
         total += (set & !before).count_ones();
         out[i] = set;
         before = set;
@@ -180,31 +207,89 @@ fn plan(c: &Campaign, out: &mut [u64]) -> u32 {
     total
 }
 
-fn plan_sheet(sheet: &[u8], out: &mut [u64]) -> Result<u32, Refusal> {
-    let c = read(sheet)?;
-    if out.len() < c.n {
-        return Err(Refusal(8, c.n as u32));
-    }
-    let mut sets = [0; STEPS];
-    let total = plan(&c, &mut sets);
-    if total > c.bound {
-        return Err(Refusal(9, total));
-    }
-    out[..c.n].copy_from_slice(&sets[..c.n]);
-    Ok(total)
+fn allows(c: &Columns, i: usize, set: u64) -> bool {
+    c.lower[i] & !set == 0 && set & !c.upper[i] == 0 && (c.least[i] as u32..=c.greatest[i] as u32).contains(&set.count_ones())
 }
 
-/// The plan of a sheet, as warm_plan gives it.
-///
-/// # Safety
-///
-/// The pointers lead to so many bytes and words.
-#[no_mangle]
-pub unsafe extern "C" fn plain_plan(sheet: *const u8, sheet_len: usize, plan: *mut u64, plan_len: usize) -> Reply {
-    let (sheet, plan) = unsafe { (std::slice::from_raw_parts(sheet, sheet_len), std::slice::from_raw_parts_mut(plan, plan_len)) };
-    let (refusal, place, total) = match plan_sheet(sheet, plan) {
-        Ok(total) => (0, 0, total),
-        Err(Refusal(number, place)) => (number, place, 0),
-    };
-    Reply { refusal, place, total, accepted: 0 }
+// ---- the entries
+
+fn steps_reply(sheet: &[u8], list: &mut [Step]) -> Result<StepsReply, Refusal> {
+    let x = read(sheet)?;
+    if list.len() < x.n {
+        return Err(Refusal(8, x.n as u32));
+    }
+    let mut at = 0;
+    for step in &mut list[..x.n] {
+        at = follow(sheet, at);
+        *step = step_at(sheet, at);
+    }
+    Ok(StepsReply { units: x.units, steps: x.n as u32, bound: x.bound, start: x.start, ..Default::default() })
+}
+
+fn plan_reply(sheet: &[u8], out: &mut [u64]) -> Result<Reply, Refusal> {
+    let x = read(sheet)?;
+    if out.len() < x.n {
+        return Err(Refusal(8, x.n as u32));
+    }
+    let mut sets = [0; STEPS];
+    let total = make_plan(&columns(sheet, x.n), &x, &mut sets);
+    if total > x.bound {
+        return Err(Refusal(9, total));
+    }
+    out[..x.n].copy_from_slice(&sets[..x.n]);
+    Ok(Reply { total, ..Default::default() })
+}
+
+fn verdict_reply(sheet: &[u8], plan: &[u64]) -> Result<Reply, Refusal> {
+    let x = read(sheet)?;
+    if plan.len() != x.n {
+        return Err(Refusal(10, x.n as u32));
+    }
+    let c = columns(sheet, x.n);
+    let (mut before, mut total, mut feasible) = (x.start, 0, true);
+    for (i, &set) in plan.iter().enumerate() {
+        feasible &= allows(&c, i, set);
+        total += (set & !before).count_ones();
+        before = set;
+    }
+    Ok(Reply { total, accepted: (feasible && total <= x.bound) as u32, ..Default::default() })
+}
+
+fn chart_reply(sheet: &[u8], on: &mut [u64], off: &mut [u64]) -> Result<Reply, Refusal> {
+    let x = read(sheet)?;
+    if on.len() < x.n || off.len() < x.n {
+        return Err(Refusal(8, x.n as u32));
+    }
+    let mut sets = [0; STEPS];
+    let mut c = columns(sheet, x.n);
+    let total = make_plan(&c, &x, &mut sets);
+    if total > x.bound {
+        return Err(Refusal(9, total));
+    }
+    plain_chart::chart(&mut c, &x, total, &sets, on, off);
+    Ok(Reply { total, ..Default::default() })
+}
+
+fn refused(Refusal(refusal, place): Refusal) -> Reply {
+    Reply { refusal, place, ..Default::default() }
+}
+
+#[inline(never)]
+pub fn steps(sheet: &[u8], list: &mut [Step]) -> StepsReply {
+    steps_reply(sheet, list).unwrap_or_else(|Refusal(refusal, place)| StepsReply { refusal, place, ..Default::default() })
+}
+
+#[inline(never)]
+pub fn plan(sheet: &[u8], out: &mut [u64]) -> Reply {
+    plan_reply(sheet, out).unwrap_or_else(refused)
+}
+
+#[inline(never)]
+pub fn verdict(sheet: &[u8], plan: &[u64]) -> Reply {
+    verdict_reply(sheet, plan).unwrap_or_else(refused)
+}
+
+#[inline(never)]
+pub fn chart(sheet: &[u8], on: &mut [u64], off: &mut [u64]) -> Reply {
+    chart_reply(sheet, on, off).unwrap_or_else(refused)
 }

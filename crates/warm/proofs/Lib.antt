@@ -2,12 +2,12 @@
 -- examples. `Decoded` has what is known of a sheet that was read. `Filling` and `Walk` serve the proofs by hand of `fill_steps` and `warm_steps`.
 mod Charts
 mod Copying
-mod Decoded
+pub mod Decoded
 pub mod Demands
 pub mod Examples
 mod Filling
 mod Likeness
-mod Plans
+pub mod Plans
 pub mod Steps
 mod Verdicts
 mod Walk

@@ -1,0 +1,174 @@
+// The benchmark: times of the four entries beside plain Rust, growth, and stack. bench/run builds and starts it, with the stack limits as
+// arguments (NAME BYTES ...). docs/FORMAT.md has the entries.
+mod families;
+mod library;
+mod painted;
+mod plain;
+mod plain_chart;
+mod task;
+mod timing;
+
+use families::{four_runs, Family, Random};
+use task::{task, Entry, Task};
+use timing::{cost_of_clearing, measure, Checker, First, Times};
+
+// The entries of a row each, with the bound so many above the fewest warm-ups.
+const ROWS: [(Entry, u32, &str); 6] = [
+    (Entry::Steps, 0, "steps"),
+    (Entry::Plan, 0, "plan"),
+    (Entry::Verdict, 0, "verdict"),
+    (Entry::Chart, 0, "chart, slack 0"),
+    (Entry::Chart, 1, "chart, slack 1"),
+    (Entry::Chart, 2, "chart, slack 2"),
+];
+const GROWTH_ROWS: [(Entry, u32, &str); 3] = [ROWS[1], ROWS[3], ROWS[5]];
+
+const GROWTH_FAMILIES: [Family; 2] = [Family::Extremes, Family::Random];
+const GROWTH_SIZES: [(usize, u32); 7] = [(32, 64), (64, 64), (128, 64), (256, 64), (256, 8), (256, 16), (256, 32)];
+
+// Seconds for a row of short calls.
+const BUDGET: f64 = 0.15;
+
+// A sheet that is measured.
+struct Case {
+    family: String,
+    steps: usize,
+    units: u32,
+    sheet: Vec<u8>,
+}
+
+// A call that is measured, and what its first call took.
+struct Row<'a> {
+    case: &'a Case,
+    label: &'static str,
+    task: Task,
+    first: First,
+}
+
+fn case(family: Family, steps: usize, units: u32) -> Case {
+    Case { family: family.name(units), steps, units, sheet: family.sheet(steps, units, &mut Random::new()) }
+}
+
+fn time_cases() -> Vec<Case> {
+    let sized = |steps, units| Family::ALL.map(|family| case(family, steps, units));
+    let four = Case { family: "Four runs".into(), steps: 4, units: 3, sheet: four_runs() };
+    sized(256, 64).into_iter().chain(sized(32, 16)).chain([four]).collect()
+}
+
+fn growth_cases() -> Vec<Case> {
+    GROWTH_FAMILIES.iter().flat_map(|&family| GROWTH_SIZES.map(|(steps, units)| case(family, steps, units))).collect()
+}
+
+// The rows of some cases, compared with plain Rust.
+fn checked_rows<'a>(checker: &mut Checker, cases: &'a [Case], entries: &[(Entry, u32, &'static str)]) -> Vec<Row<'a>> {
+    let mut rows = vec![];
+    for case in cases {
+        for &(entry, slack, label) in entries {
+            let task = task(entry, &case.sheet, slack);
+            let what = format!("{}, {} steps, {} units, {label}", case.family, case.steps, case.units);
+            let first = checker.compare(&what, &task);
+            rows.push(Row { case, label, task, first });
+        }
+    }
+    rows
+}
+
+// Drawn sheets of up to 16 steps, sound and then with a changed byte, for the comparison and the stack.
+fn check_drawn(checker: &mut Checker) {
+    let mut random = Random::new();
+    for _ in 0..300 {
+        let family = Family::ALL[random.below(8) as usize];
+        let sheet = family.sheet(1 << random.below(5), 4 + random.below(61), &mut random);
+        for (entry, slack, label) in ROWS {
+            let mut task = task(entry, &sheet, slack);
+            checker.compare(&format!("a drawn sheet, {label}"), &task);
+            let place = random.below(task.sheet.len() as u32) as usize;
+            task.sheet[place] ^= 1 << random.below(8);
+            checker.compare(&format!("a damaged sheet, {label}"), &task);
+        }
+    }
+}
+
+// ---- what is printed
+
+// Three significant digits, thousands parted by commas.
+fn digits(x: f64) -> String {
+    let places = 2 - x.abs().log10().floor() as i32;
+    let scale = 10f64.powi(places);
+    let rounded = (x * scale).round() / scale;
+    let plain = format!("{rounded:.*}", places.max(0) as usize);
+    let (whole, rest) = plain.split_at(plain.find('.').unwrap_or(plain.len()));
+    format!("{}{rest}", grouped(whole))
+}
+
+fn grouped(whole: &str) -> String {
+    let groups: Vec<&str> = whole.as_bytes().rchunks(3).rev().map(|group| std::str::from_utf8(group).unwrap()).collect();
+    groups.join(",")
+}
+
+fn print_times(rows: &[Row]) {
+    println!("Microseconds per call: medians, library and plain Rust in turns. Outputs are not cleared between calls.");
+    println!("Slack: the bound less the fewest warm-ups. Calls of about 0.1 s and more are made twice, of 1 s and more once.\n");
+    println!("| steps | units | sheet            | entry          |   library |     plain | ratio |");
+    println!("|------:|------:|:-----------------|:---------------|----------:|----------:|------:|");
+    for Row { case, label, task, first } in rows {
+        let Times { library, plain } = measure(task, *first, BUDGET);
+        let (Case { family, steps, units, .. }, ratio) = (case, library / plain);
+        println!("| {steps:5} | {units:5} | {family:16} | {label:14} | {:>9} | {:>9} | {ratio:5.2} |", digits(library), digits(plain));
+    }
+}
+
+fn print_clearing(rows: &[Row]) {
+    let row = rows.iter().find(|row| row.task.entry == Entry::Plan && row.case.family == "any set").expect("a plan of any set");
+    let times = cost_of_clearing(&row.task);
+    let (cleared, not) = (digits(times.library), digits(times.plain));
+    println!("\nThe library's plan of 'any set' (256 steps) takes {cleared} microseconds with the output cleared before each call, and");
+    println!("{not} without.");
+}
+
+fn print_growth(rows: &[Row]) {
+    println!("\nGrowth, microseconds per call of the library, and its ratio to plain Rust.\n");
+    println!("| sheet       | steps | units |      plan | ratio | chart, slack 0 | ratio | chart, slack 2 | ratio |");
+    println!("|:------------|------:|------:|----------:|------:|---------------:|------:|---------------:|------:|");
+    for group in rows.chunks(GROWTH_ROWS.len()) {
+        let Case { family, steps, units, .. } = group[0].case;
+        let cells: Vec<(String, f64)> = group
+            .iter()
+            .map(|row| measure(&row.task, row.first, BUDGET))
+            .map(|times| (digits(times.library), times.library / times.plain))
+            .collect();
+        let [(plan, a), (tight, b), (loose, c)] = &cells[..] else { unreachable!() };
+        println!("| {family:11} | {steps:5} | {units:5} | {plan:>9} | {a:5.2} | {tight:>14} | {b:5.2} | {loose:>14} | {c:5.2} |");
+    }
+}
+
+// The limit of an entry among the arguments.
+fn limit(arguments: &[String], name: &str) -> usize {
+    let at = arguments.iter().position(|argument| argument == name).unwrap_or_else(|| panic!("no stack limit for {name}"));
+    arguments[at + 1].parse().expect("a number of bytes")
+}
+
+fn print_stack(checker: &Checker, arguments: &[String]) {
+    println!("\nStack of a call in bytes, its return address included: the deepest of {} painted calls, and the limit that", grouped(&checker.calls.to_string()));
+    println!("bench/stack sums from the disassembly.\n");
+    println!("| entry        | measured | limit |");
+    println!("|:-------------|---------:|------:|");
+    for entry in Entry::ALL {
+        let (name, measured, limit) = (entry.name(), checker.deepest[entry as usize], limit(arguments, entry.name()));
+        println!("| {name:12} | {:>8} | {:>5} |", grouped(&measured.to_string()), grouped(&limit.to_string()));
+        assert!(measured <= limit, "{name} used more stack than its limit");
+    }
+}
+
+fn main() {
+    let arguments: Vec<String> = std::env::args().skip(1).collect();
+    let mut checker = Checker::new();
+    check_drawn(&mut checker);
+    let (times, growth) = (time_cases(), growth_cases());
+    let time_rows = checked_rows(&mut checker, &times, &ROWS);
+    let growth_rows = checked_rows(&mut checker, &growth, &GROWTH_ROWS);
+    print_times(&time_rows);
+    print_clearing(&time_rows);
+    print_growth(&growth_rows);
+    print_stack(&checker, &arguments);
+}

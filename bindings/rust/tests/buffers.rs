@@ -1,0 +1,118 @@
+//! Outputs of all lengths: too short, just enough, longer. Refusal 8 for each output by itself, and which refusal comes first. What lies
+//! before, behind and, on a refusal, inside an output stays as it is: the judge looks at all of it on each call.
+
+mod common;
+mod reference;
+
+use common::judge::Judge;
+use common::random::Random;
+use common::sheets::{draw, four_runs, set_bound, Family};
+use reference::replies::Replies;
+use warm::{Refusal, Refused};
+
+/// Lengths around n, each once.
+fn lengths(n: usize) -> Vec<usize> {
+    let mut lengths = vec![0, 1, n / 2, n.saturating_sub(1), n, n + 1, n + 9, 256, 300];
+    lengths.sort();
+    lengths.dedup();
+    lengths
+}
+
+#[test]
+fn all_lengths() {
+    let mut judge = Judge::new(41);
+    let mut random = Random::new(41);
+    for steps in [0, 1, 2, 3, 5, 8, 17, 40, 255, 256] {
+        for family in Family::ALL {
+            let units = random.between(1, 6);
+            let campaign = draw(family, units, steps, &mut random);
+            let mut sheet = campaign.scattered((256 - steps).min(3), &mut random);
+            let replies = Replies::new(&sheet);
+            // With room, and with a bound that is too low, if one is.
+            for bound in [replies.fewest() + 2, replies.fewest().saturating_sub(1)] {
+                set_bound(&mut sheet, bound as u16);
+                let expected = replies.with_bound(bound as u16);
+                each_length(&mut judge, &sheet, &expected);
+            }
+        }
+    }
+    judge.tally.print("all lengths");
+    judge.tally.require_refusals([8, 9], 1000);
+    judge.tally.require_refusals([10], 500);
+    judge.tally.require(&[
+        ("step lists", 500),
+        ("plans", 200),
+        ("charts", 1000),
+        ("accepted", 50),
+        ("turned down", 20),
+    ]);
+}
+
+fn each_length(judge: &mut Judge, sheet: &[u8], expected: &Replies) {
+    let mut handed_in = expected.support().to_vec();
+    handed_in.resize(300, 0);
+    for places in lengths(expected.n()) {
+        judge.steps(sheet, expected, places);
+        judge.plan(sheet, expected, places);
+        judge.verdict(sheet, expected, &handed_in[..places]);
+        for others in lengths(expected.n()) {
+            judge.chart(sheet, expected, places, others);
+        }
+    }
+}
+
+/// One output too short, the other long enough.
+#[test]
+fn each_output_by_itself() {
+    let sheet = four_runs().bytes();
+    let short = Err(Refused { refusal: Refusal::ShortOutput, place: 4 });
+    let (mut on, mut off) = ([9; 5], [9; 5]);
+    assert_eq!(warm::chart(&sheet, &mut on[..3], &mut off), short);
+    assert_eq!(warm::chart(&sheet, &mut on, &mut off[..3]), short);
+    assert_eq!(warm::plan(&sheet, &mut on[..3]), short);
+    assert_eq!((on, off), ([9; 5], [9; 5]));
+}
+
+/// No place at all.
+#[test]
+fn empty_slices() {
+    let sheet = four_runs().bytes();
+    let short = Refused { refusal: Refusal::ShortOutput, place: 4 };
+    assert_eq!(warm::steps(&sheet, &mut []), Err(short));
+    assert_eq!(warm::plan(&sheet, &mut []), Err(short));
+    assert_eq!(warm::chart(&sheet, &mut [], &mut []), Err(short));
+    assert_eq!(warm::verdict(&sheet, &[]), Err(Refused { refusal: Refusal::PlanLength, place: 4 }));
+    let none = Refused { refusal: Refusal::Length, place: 0 };
+    assert_eq!(warm::steps(&[], &mut []), Err(none));
+    assert_eq!(warm::plan(&[], &mut []), Err(none));
+    assert_eq!(warm::chart(&[], &mut [], &mut []), Err(none));
+    assert_eq!(warm::verdict(&[], &[]), Err(none));
+}
+
+/// Several threads at once get what one gets.
+#[test]
+fn threads() {
+    let mut random = Random::new(42);
+    let sheets: Vec<Vec<u8>> = (0..200)
+        .map(|i| {
+            let mut campaign = draw(Family::ALL[i % 7], 1 + i % 12, i % 20, &mut random);
+            campaign.bound = (i % 40) as u16;
+            campaign.scattered(i % 5, &mut random)
+        })
+        .collect();
+    let run = || -> Vec<_> {
+        let chart = |sheet: &Vec<u8>| {
+            let (mut on, mut off) = ([0; 20], [0; 20]);
+            (warm::chart(sheet, &mut on, &mut off), on, off)
+        };
+        sheets.iter().map(chart).collect()
+    };
+    let alone = run();
+    std::thread::scope(|scope| {
+        let others: Vec<_> = (0..4).map(|_| scope.spawn(run)).collect();
+        for other in others {
+            assert_eq!(other.join().unwrap(), alone);
+        }
+    });
+    assert!(alone.iter().any(|reply| reply.0.is_ok()) && alone.iter().any(|reply| reply.0.is_err()));
+}

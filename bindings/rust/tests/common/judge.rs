@@ -1,0 +1,171 @@
+//! Calls the library with lent memory that lies inside larger buffers, and compares its reply and all of the buffers with the reference.
+
+use super::random::Random;
+use super::tally::Tally;
+use crate::reference::replies::{Chart, Replies};
+use crate::reference::{units_below, Reply};
+use std::fmt::Debug;
+use warm::{Refused, Step};
+
+/// Places of a buffer before and after the ones that are lent.
+const MARGIN: usize = 5;
+
+/// An output inside a larger buffer. No two neighbouring places are alike.
+pub struct Output<T> {
+    before: Vec<T>,
+    buffer: Vec<T>,
+}
+
+impl<T: Copy + PartialEq + Debug> Output<T> {
+    fn new(places: usize, value: impl Fn(u64) -> T) -> Output<T> {
+        let buffer: Vec<T> =
+            (1..=places + 2 * MARGIN).map(|i| value((i as u64).wrapping_mul(0xA5C3_96E1_7B2D_84F3))).collect();
+        Output { before: buffer.clone(), buffer }
+    }
+
+    fn lent(&mut self) -> &mut [T] {
+        let end = self.buffer.len() - MARGIN;
+        &mut self.buffer[MARGIN..end]
+    }
+
+    /// The first lent places are as given, and every other place is as it was.
+    fn check(mut self, first: &[T], call: &str, sheet: &[u8]) {
+        self.before[MARGIN..MARGIN + first.len()].copy_from_slice(first);
+        assert_eq!(self.buffer, self.before, "{call}: the output, for the sheet {}", hex(sheet));
+    }
+}
+
+pub fn words(places: usize) -> Output<u64> {
+    Output::new(places, |word| word)
+}
+
+pub fn step_list(places: usize) -> Output<Step> {
+    Output::new(places, |word| Step {
+        lower: word,
+        upper: !word,
+        least: word as u8,
+        greatest: (word >> 8) as u8,
+        tag: (word >> 16) as u32,
+    })
+}
+
+pub struct Judge {
+    pub tally: Tally,
+    random: Random,
+}
+
+impl Judge {
+    pub fn new(seed: u64) -> Judge {
+        Judge { tally: Tally::default(), random: Random::new(seed) }
+    }
+
+    /// All four entries, with outputs that are long enough, and the verdict on the plan.
+    pub fn all(&mut self, sheet: &[u8], expected: &Replies) {
+        self.all_but_chart(sheet, expected);
+        let [on, off] = [0; 2].map(|_| self.enough(expected));
+        self.chart(sheet, expected, on, off);
+    }
+
+    pub fn all_but_chart(&mut self, sheet: &[u8], expected: &Replies) {
+        let places = self.enough(expected);
+        self.steps(sheet, expected, places);
+        let places = self.enough(expected);
+        self.plan(sheet, expected, places);
+        let plan = if expected.sheet.is_ok() { expected.support().to_vec() } else { vec![1, 3, 5, 5] };
+        self.verdict(sheet, expected, &plan);
+    }
+
+    fn enough(&mut self, expected: &Replies) -> usize {
+        expected.n() + self.random.below(4)
+    }
+
+    pub fn steps(&mut self, sheet: &[u8], expected: &Replies, places: usize) {
+        let mut list = step_list(places);
+        let got = self.with_lent_sheet(sheet, |sheet| warm::steps(sheet, list.lent()));
+        let want = expected.steps(places);
+        self.compare("steps", sheet, got, want.as_ref().map(|reply| reply.0).map_err(|&refusal| refusal));
+        list.check(want.as_ref().map_or(&[], |reply| &reply.1), "steps", sheet);
+        if want.is_ok() {
+            self.tally.add("step lists", 1);
+        }
+    }
+
+    pub fn plan(&mut self, sheet: &[u8], expected: &Replies, places: usize) {
+        let mut output = words(places);
+        let got = self.with_lent_sheet(sheet, |sheet| warm::plan(sheet, output.lent()));
+        let want = expected.plan(places);
+        self.compare("plan", sheet, got, want.as_ref().map(|reply| reply.0).map_err(|&refusal| refusal));
+        output.check(want.as_ref().map_or(&[], |reply| &reply.1), "plan", sheet);
+        if want.is_ok() {
+            self.tally.add("plans", 1);
+        }
+    }
+
+    pub fn chart(&mut self, sheet: &[u8], expected: &Replies, on_places: usize, off_places: usize) {
+        self.chart_as(sheet, expected, expected.chart(on_places, off_places), on_places, off_places);
+    }
+
+    /// The chart of a sheet whose bound leaves room for two more warm-ups than the fewest, with outputs that are long enough.
+    pub fn roomy_chart(&mut self, sheet: &[u8], expected: &Replies) {
+        let [on, off] = [0; 2].map(|_| self.enough(expected));
+        self.chart_as(sheet, expected, Ok(expected.roomy_chart()), on, off);
+    }
+
+    fn chart_as(&mut self, sheet: &[u8], expected: &Replies, want: Reply<Chart>, on_places: usize, off_places: usize) {
+        let (mut on, mut off) = (words(on_places), words(off_places));
+        let got = self.with_lent_sheet(sheet, |sheet| warm::chart(sheet, on.lent(), off.lent()));
+        self.compare("chart", sheet, got, want.as_ref().map(|reply| reply.0).map_err(|&refusal| refusal));
+        on.check(want.as_ref().map_or(&[], |reply| &reply.1), "chart, on", sheet);
+        off.check(want.as_ref().map_or(&[], |reply| &reply.2), "chart, off", sheet);
+        if let Ok((_, on, off)) = want {
+            self.tally.add("charts", 1);
+            let units = expected.sheet.as_ref().unwrap().units;
+            self.count_cells(["can be on", "cannot be on"], units, &on);
+            self.count_cells(["can be off", "cannot be off"], units, &off);
+        }
+    }
+
+    pub fn verdict(&mut self, sheet: &[u8], expected: &Replies, plan: &[u64]) {
+        let mut handed_in = words(plan.len());
+        handed_in.lent().copy_from_slice(plan);
+        let got = self.with_lent_sheet(sheet, |sheet| warm::verdict(sheet, handed_in.lent()));
+        let want = expected.verdict(plan);
+        self.compare("verdict", sheet, got, want);
+        handed_in.check(plan, "verdict", sheet);
+        if let Ok(verdict) = want {
+            self.tally.add(if verdict.accepted { "accepted" } else { "turned down" }, 1);
+        }
+    }
+
+    /// Runs a call on a sheet inside a larger buffer of garbage, at any alignment. Nothing there may change.
+    fn with_lent_sheet<R>(&mut self, sheet: &[u8], call: impl FnOnce(&[u8]) -> R) -> R {
+        let at = self.random.below(16);
+        let mut buffer = self.random.bytes(at);
+        buffer.extend_from_slice(sheet);
+        buffer.extend(self.random.bytes(24));
+        let before = buffer.clone();
+        let reply = call(&buffer[at..at + sheet.len()]);
+        assert!(buffer == before, "the sheet was changed: {}", hex(sheet));
+        reply
+    }
+
+    fn compare<T: Debug + PartialEq>(&mut self, call: &str, sheet: &[u8], got: Result<T, Refused>, want: Reply<T>) {
+        let got = got.map_err(|refused| (refused.refusal.number(), refused.place));
+        assert_eq!(got, want, "{call}: the reply, for the sheet {}", hex(sheet));
+        self.tally.add("calls", 1);
+        if let Err((number, _)) = want {
+            self.tally.add_refusal(number);
+        }
+    }
+
+    fn count_cells(&mut self, kinds: [&'static str; 2], units: usize, words: &[u64]) {
+        let can: u32 = words.iter().map(|word| (word & units_below(units)).count_ones()).sum();
+        self.tally.add(kinds[0], u64::from(can));
+        self.tally.add(kinds[1], (units * words.len()) as u64 - u64::from(can));
+    }
+}
+
+/// The bytes of a sheet, for the message of a failure.
+pub fn hex(bytes: &[u8]) -> String {
+    bytes.iter().map(|byte| format!("{byte:02x}")).collect()
+}

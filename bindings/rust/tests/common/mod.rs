@@ -1,0 +1,14 @@
+//! What the files of tests share.
+//!
+//! - `random`: drawn numbers, from fixed seeds.
+//! - `sheets`: campaigns, drawn and by hand, and their bytes.
+//! - `judge`: calls the library and compares with the reference.
+//! - `tally`: counts the comparisons.
+
+// Each file of tests uses a part of this.
+#![allow(dead_code)]
+
+pub mod judge;
+pub mod random;
+pub mod sheets;
+pub mod tally;

@@ -1,0 +1,241 @@
+//! The fewest warm-ups as the least cost of a flow, for sheets of any size.
+//!
+//! As many tokens as there are units run through the steps. In each step a token either takes the edge of a unit that is on, or waits in the
+//! pool of those that are off. A unit's edge lets one token through if the unit is in the upper set, and must carry one if it is in the
+//! lower set. The pool carries at least d - greatest and at most d - least tokens. From step to step a token stays with its unit or goes to
+//! the pool for nothing, and goes from the pool to a unit for a warm-up. What an edge must carry earns a bonus that outweighs all warm-ups.
+//!
+//! Once the cheapest flow is known, the cheapest one in which a unit's edge is the other way round differs from it by the cheapest way back
+//! from the edge's one end to the other in the residual network.
+
+use super::{has, Sheet};
+use std::cmp::Reverse;
+use std::collections::BinaryHeap;
+
+/// For a token on an edge that must carry it.
+const BONUS: i64 = 1 << 20;
+
+pub struct Flow {
+    network: Network,
+    /// By step and unit: the edge of the unit, if it is in the upper set.
+    unit_edges: Vec<Vec<Option<usize>>>,
+    fewest: u32,
+}
+
+impl Flow {
+    pub fn new(sheet: &Sheet) -> Flow {
+        let d = sheet.units as i64;
+        let mut network = Network::default();
+        let source = network.node();
+        let mut layer = start_layer(&mut network, source, sheet);
+        let mut unit_edges = Vec::new();
+        let mut bonuses = 0;
+        for step in &sheet.steps {
+            let into = next_layer(&mut network, &layer);
+            layer = Layer { units: into.units.iter().map(|_| network.node()).collect(), pool: network.node() };
+            let mut edges = vec![None; sheet.units];
+            for u in (0..sheet.units).filter(|&u| has(step.upper, u)) {
+                let must = has(step.lower, u);
+                bonuses += i64::from(must);
+                edges[u] = Some(network.edge(into.units[u], layer.units[u], 1, if must { -BONUS } else { 0 }));
+            }
+            unit_edges.push(edges);
+            let must = (d - i64::from(step.greatest)).max(0);
+            bonuses += must;
+            network.edge(into.pool, layer.pool, must, -BONUS);
+            network.edge(into.pool, layer.pool, d - i64::from(step.least) - must, 0);
+        }
+        let sink = end(&mut network, &layer, d);
+        let fewest = network.send(source, sink, d) + BONUS * bonuses;
+        assert!((0..BONUS / 2).contains(&fewest), "a flow must exist for a sheet that passes the checks");
+        Flow { network, unit_edges, fewest: fewest as u32 }
+    }
+
+    /// The least total of any feasible plan.
+    pub fn fewest(&self) -> u32 {
+        self.fewest
+    }
+
+    /// The least total of any feasible plan in which unit `u` is on (or off) in a step, counted from 0; none if there is no such plan.
+    pub fn cheapest(&self, step: usize, u: usize, on: bool) -> Option<u32> {
+        let Some(edge) = self.unit_edges[step][u] else {
+            return if on { None } else { Some(self.fewest) };
+        };
+        let edges = &self.network.edges;
+        let (start, end, cost) = (edges[edge ^ 1].to, edges[edge].to, edges[edge].cost);
+        let carries = edges[edge].room == 0;
+        if carries == on {
+            return Some(self.fewest);
+        }
+        // Off: the token leaves the edge and takes another way to its end. On: a token comes, and the flow makes up for it from the end back
+        // to the start.
+        let more = match carries {
+            true => self.network.shortest(start, end)? - cost,
+            false => self.network.shortest(end, start)? + cost,
+        };
+        (more < BONUS / 2).then(|| self.fewest + more as u32)
+    }
+}
+
+/// The nodes of a step, before or after its edges.
+struct Layer {
+    units: Vec<usize>,
+    pool: usize,
+}
+
+/// The tokens before the first step: one on each unit of the start set, the others in the pool.
+fn start_layer(network: &mut Network, source: usize, sheet: &Sheet) -> Layer {
+    let layer = Layer { units: (0..sheet.units).map(|_| network.node()).collect(), pool: network.node() };
+    for u in (0..sheet.units).filter(|&u| has(sheet.start, u)) {
+        network.edge(source, layer.units[u], 1, 0);
+    }
+    network.edge(source, layer.pool, sheet.units as i64 - i64::from(sheet.start.count_ones()), 0);
+    layer
+}
+
+/// From a step to the next one: a warm-up goes from the pool to a unit.
+fn next_layer(network: &mut Network, from: &Layer) -> Layer {
+    let d = from.units.len();
+    let to = Layer { units: (0..d).map(|_| network.node()).collect(), pool: network.node() };
+    for u in 0..d {
+        network.edge(from.units[u], to.units[u], 1, 0);
+        network.edge(from.units[u], to.pool, 1, 0);
+        network.edge(from.pool, to.units[u], 1, 1);
+    }
+    network.edge(from.pool, to.pool, d as i64, 0);
+    to
+}
+
+fn end(network: &mut Network, last: &Layer, d: i64) -> usize {
+    let sink = network.node();
+    for &unit in &last.units {
+        network.edge(unit, sink, 1, 0);
+    }
+    network.edge(last.pool, sink, d, 0);
+    sink
+}
+
+/// Edge `e` and its reverse `e ^ 1` are made together: what one carries is the room of the other.
+struct Edge {
+    to: usize,
+    room: i64,
+    cost: i64,
+}
+
+/// A network with a flow. Edges are made from earlier nodes to later ones.
+#[derive(Default)]
+struct Network {
+    edges: Vec<Edge>,
+    leaving: Vec<Vec<usize>>,
+    /// For each edge with room, cost + height of its start - height of its end is not negative.
+    heights: Vec<i64>,
+}
+
+impl Network {
+    fn node(&mut self) -> usize {
+        self.leaving.push(Vec::new());
+        self.leaving.len() - 1
+    }
+
+    fn edge(&mut self, from: usize, to: usize, room: i64, cost: i64) -> usize {
+        assert!(from < to && room >= 0);
+        let edge = self.edges.len();
+        self.edges.push(Edge { to, room, cost });
+        self.edges.push(Edge { to: from, room: 0, cost: -cost });
+        self.leaving[from].push(edge);
+        self.leaving[to].push(edge + 1);
+        edge
+    }
+
+    /// Sends so many tokens as cheaply as possible, one shortest path after the other. Returns the cost.
+    fn send(&mut self, source: usize, sink: usize, tokens: i64) -> i64 {
+        self.set_heights();
+        let mut left = tokens;
+        let mut cost = 0;
+        while left > 0 {
+            let search = self.search(source, sink);
+            let distance = search.distances[sink];
+            assert!(distance < i64::MAX, "there is a way for every token");
+            for (height, &reached) in self.heights.iter_mut().zip(&search.distances) {
+                *height += reached.min(distance);
+            }
+            let path = search.path(self, sink);
+            let sent = path.iter().map(|&edge| self.edges[edge].room).min().unwrap().min(left);
+            for edge in path {
+                self.edges[edge].room -= sent;
+                self.edges[edge ^ 1].room += sent;
+                cost += sent * self.edges[edge].cost;
+            }
+            left -= sent;
+        }
+        cost
+    }
+
+    /// Before anything flows, the edges with room go from earlier nodes to later ones.
+    fn set_heights(&mut self) {
+        self.heights = vec![0; self.leaving.len()];
+        for from in 0..self.leaving.len() {
+            for &edge in &self.leaving[from] {
+                let Edge { to, room, cost } = self.edges[edge];
+                if room > 0 {
+                    self.heights[to] = self.heights[to].min(self.heights[from] + cost);
+                }
+            }
+        }
+    }
+
+    /// The cost of the cheapest way from one node to another over edges with room, if there is one.
+    fn shortest(&self, from: usize, to: usize) -> Option<i64> {
+        let distance = self.search(from, to).distances[to];
+        (distance < i64::MAX).then(|| distance - self.heights[from] + self.heights[to])
+    }
+
+    /// Dijkstra's search with the costs that the heights make non-negative. Ends at the target.
+    fn search(&self, from: usize, target: usize) -> Search {
+        let nodes = self.leaving.len();
+        let mut search = Search { distances: vec![i64::MAX; nodes], arrived_by: vec![usize::MAX; nodes] };
+        let mut waiting = BinaryHeap::from([Reverse((0, from))]);
+        search.distances[from] = 0;
+        while let Some(Reverse((distance, node))) = waiting.pop() {
+            if node == target {
+                break;
+            }
+            if distance > search.distances[node] {
+                continue;
+            }
+            for &edge in &self.leaving[node] {
+                let Edge { to, room, cost } = self.edges[edge];
+                if room == 0 {
+                    continue;
+                }
+                let step = cost + self.heights[node] - self.heights[to];
+                debug_assert!(step >= 0);
+                if distance + step < search.distances[to] {
+                    search.distances[to] = distance + step;
+                    search.arrived_by[to] = edge;
+                    waiting.push(Reverse((distance + step, to)));
+                }
+            }
+        }
+        search
+    }
+}
+
+struct Search {
+    distances: Vec<i64>,
+    arrived_by: Vec<usize>,
+}
+
+impl Search {
+    /// The edges to a node that was reached, last edge first.
+    fn path(&self, network: &Network, target: usize) -> Vec<usize> {
+        let mut path = Vec::new();
+        let mut node = target;
+        while self.arrived_by[node] != usize::MAX {
+            let edge = self.arrived_by[node];
+            path.push(edge);
+            node = network.edges[edge ^ 1].to;
+        }
+        path
+    }
+}

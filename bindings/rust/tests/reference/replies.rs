@@ -1,0 +1,148 @@
+//! What the four entries answer to a sheet (docs/FORMAT.md, Refusals and Replies).
+
+use super::exact::Exact;
+use super::reading::{read, Sheet};
+use super::support::find_support;
+use super::{feasible, total, Reply};
+use std::cell::OnceCell;
+use std::rc::Rc;
+use warm::{Step, Summary, Verdict};
+
+/// A full reply of `chart`: the plan's total, the units that can be on, those that can be off.
+pub type Chart = (u32, Vec<u64>, Vec<u64>);
+
+#[derive(Clone)]
+pub struct Replies {
+    pub sheet: Reply<Sheet>,
+    campaign: Option<Rc<Campaign>>,
+}
+
+/// What does not depend on the bound.
+struct Campaign {
+    plan: Vec<u64>,
+    exact: Exact,
+    cells: OnceCell<Cells>,
+}
+
+/// By step and unit: the least total of a feasible plan with the unit on, and with the unit off.
+type Cells = Vec<Vec<[Option<u32>; 2]>>;
+
+impl Replies {
+    pub fn new(bytes: &[u8]) -> Replies {
+        let sheet = read(bytes);
+        let campaign = sheet.as_ref().ok().map(|sheet| {
+            let plan = find_support(sheet);
+            Rc::new(Campaign { plan, exact: Exact::new(sheet), cells: OnceCell::new() })
+        });
+        Replies { sheet, campaign }
+    }
+
+    /// The replies to the same sheet with another bound.
+    pub fn with_bound(&self, bound: u16) -> Replies {
+        let mut other = self.clone();
+        if let Ok(sheet) = &mut other.sheet {
+            sheet.bound = u32::from(bound);
+        }
+        other
+    }
+
+    /// The number of steps, 0 if the sheet does not pass the checks.
+    pub fn n(&self) -> usize {
+        self.sheet.as_ref().map_or(0, |sheet| sheet.steps.len())
+    }
+
+    /// FindSupport's plan, whatever the bound. The sheet must pass the checks.
+    pub fn support(&self) -> &[u64] {
+        &self.campaign().plan
+    }
+
+    /// The fewest warm-ups. The sheet must pass the checks.
+    pub fn fewest(&self) -> u32 {
+        self.campaign().exact.fewest()
+    }
+
+    /// The least total with a unit on or off in a step from 0. The sheet must pass the checks.
+    pub fn cheapest(&self, step: usize, u: usize, on: bool) -> Option<u32> {
+        self.campaign().exact.cheapest(step, u, on)
+    }
+
+    pub fn steps(&self, places: usize) -> Reply<(Summary, Vec<Step>)> {
+        let sheet = self.with_places(places)?;
+        let units = sheet.units as u32;
+        let summary = Summary { units, steps: sheet.steps.len(), bound: sheet.bound, start: sheet.start };
+        Ok((summary, sheet.steps.clone()))
+    }
+
+    pub fn plan(&self, places: usize) -> Reply<(u32, Vec<u64>)> {
+        let sheet = self.within_bound(places)?;
+        Ok((total(sheet.start, self.support()), self.support().to_vec()))
+    }
+
+    pub fn chart(&self, on_places: usize, off_places: usize) -> Reply<Chart> {
+        let sheet = self.within_bound(on_places.min(off_places))?;
+        let [on, off] = [true, false].map(|on| (0..self.n()).map(|i| self.can_be(sheet, i, on)).collect());
+        Ok((total(sheet.start, self.support()), on, off))
+    }
+
+    /// The chart if the bound leaves room for two more warm-ups than the fewest, cheap for sheets of any size. Then the limits of a step
+    /// decide alone: a unit that they let be on (or off) costs a best plan at most two warm-ups more, as one exchange of units in that one
+    /// step does it. The tests of the reference try this. The sheet must pass the checks.
+    pub fn roomy_chart(&self) -> Chart {
+        let sheet = self.sheet.as_ref().unwrap();
+        assert!(sheet.bound >= self.fewest() + 2);
+        let collect = |can_be: &dyn Fn(&Step, u64) -> bool| {
+            let word = |step| (0..sheet.units).map(|u| 1 << u).filter(|&unit| can_be(step, unit)).sum();
+            sheet.steps.iter().map(word).collect()
+        };
+        let on = collect(&|step, unit| {
+            step.upper & unit != 0 && (step.lower | unit).count_ones() <= u32::from(step.greatest)
+        });
+        let off =
+            collect(&|step, unit| step.lower & unit == 0 && (step.upper & !unit).count_ones() >= u32::from(step.least));
+        (total(sheet.start, self.support()), on, off)
+    }
+
+    pub fn verdict(&self, plan: &[u64]) -> Reply<Verdict> {
+        let sheet = self.sheet.as_ref().map_err(|&refusal| refusal)?;
+        if plan.len() != self.n() {
+            return Err((10, self.n() as u32));
+        }
+        let total = total(sheet.start, plan);
+        let all_feasible = sheet.steps.iter().zip(plan).all(|(step, &set)| feasible(step, set));
+        Ok(Verdict { accepted: all_feasible && total <= sheet.bound, total })
+    }
+
+    /// Refusals 1 to 8.
+    fn with_places(&self, places: usize) -> Reply<&Sheet> {
+        let sheet = self.sheet.as_ref().map_err(|&refusal| refusal)?;
+        if places < self.n() {
+            return Err((8, self.n() as u32));
+        }
+        Ok(sheet)
+    }
+
+    /// Refusals 1 to 9.
+    fn within_bound(&self, places: usize) -> Reply<&Sheet> {
+        let sheet = self.with_places(places)?;
+        if self.fewest() > sheet.bound {
+            return Err((9, self.fewest()));
+        }
+        Ok(sheet)
+    }
+
+    /// The units that can be on (or off) in a step within the bound.
+    fn can_be(&self, sheet: &Sheet, step: usize, on: bool) -> u64 {
+        let cells = self.campaign().cells.get_or_init(|| self.cells(sheet));
+        let within = |&u: &usize| cells[step][u][usize::from(!on)].is_some_and(|total| total <= sheet.bound);
+        (0..sheet.units).filter(within).map(|u| 1 << u).sum()
+    }
+
+    fn cells(&self, sheet: &Sheet) -> Cells {
+        let cell = |step, u| [self.cheapest(step, u, true), self.cheapest(step, u, false)];
+        (0..self.n()).map(|step| (0..sheet.units).map(|u| cell(step, u)).collect()).collect()
+    }
+
+    fn campaign(&self) -> &Campaign {
+        self.campaign.as_ref().expect("the sheet passes the checks")
+    }
+}

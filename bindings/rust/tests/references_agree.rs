@@ -1,0 +1,111 @@
+//! The parts of the reference against each other: all sets, the flow and FindSupport give the same fewest warm-ups, and all sets and the
+//! flow the same chart. The library is not called.
+
+mod common;
+mod reference;
+
+use common::random::Random;
+use common::sheets::{draw, Family};
+use common::tally::Tally;
+use reference::all_sets::AllSets;
+use reference::flow::Flow;
+use reference::support::find_support;
+use reference::{feasible, has, total, warm_ups, Sheet};
+
+fn draw_sheet(family: Family, units: usize, steps: usize, random: &mut Random) -> Sheet {
+    let campaign = draw(family, units, steps, random);
+    Sheet { units, bound: 0, start: campaign.start, steps: campaign.steps }
+}
+
+#[test]
+fn all_sets_and_flow() {
+    let mut random = Random::new(1);
+    let mut tally = Tally::default();
+    for round in 0..300 {
+        for family in Family::ALL {
+            let (units, steps) = (1 + round % 8, random.below(13));
+            let sheet = draw_sheet(family, units, steps, &mut random);
+            let (all_sets, flow) = (AllSets::new(&sheet), Flow::new(&sheet));
+            assert_eq!(all_sets.fewest(), flow.fewest(), "{sheet:?}");
+            tally.add("fewest", 1);
+            for (i, u, on) in cells(&sheet) {
+                let cheapest = all_sets.cheapest(i, u, on);
+                assert_eq!(cheapest, flow.cheapest(i, u, on), "step {i}, unit {u}, on {on} of {sheet:?}");
+                tally.add(kind(cheapest.map(|total| total - all_sets.fewest())), 1);
+            }
+        }
+    }
+    tally.print("all sets and flow");
+    tally.require(&[("fewest", 2000), ("never", 1000), ("for nothing", 1000), ("for 1", 1000), ("for 2", 100)]);
+    assert_eq!(tally.of("for more"), 0, "one unit in one step never costs more than two warm-ups");
+}
+
+fn cells(sheet: &Sheet) -> impl Iterator<Item = (usize, usize, bool)> + '_ {
+    let units = sheet.units;
+    (0..sheet.steps.len()).flat_map(move |i| (0..units).flat_map(move |u| [(i, u, true), (i, u, false)]))
+}
+
+fn kind(more: Option<u32>) -> &'static str {
+    match more {
+        None => "never",
+        Some(0) => "for nothing",
+        Some(1) => "for 1",
+        Some(2) => "for 2",
+        Some(_) => "for more",
+    }
+}
+
+#[test]
+fn find_support_and_fewest() {
+    let mut random = Random::new(2);
+    let mut tally = Tally::default();
+    for round in 0..250 {
+        for family in Family::ALL {
+            let (units, steps) = (random.between(1, 64), random.below(1 + round % 40));
+            let sheet = draw_sheet(family, units, steps, &mut random);
+            let plan = find_support(&sheet);
+            assert!(sheet.steps.iter().zip(&plan).all(|(step, &set)| feasible(step, set)), "{sheet:?}");
+            assert_eq!(total(sheet.start, &plan), Flow::new(&sheet).fewest(), "{sheet:?}");
+            tally.add("fewest", 1);
+        }
+    }
+    tally.print("FindSupport and fewest");
+    tally.require(&[("fewest", 1500)]);
+}
+
+/// All plans of tiny sheets, one by one.
+#[test]
+fn all_plans() {
+    let mut random = Random::new(3);
+    let mut tally = Tally::default();
+    for _ in 0..150 {
+        for family in Family::ALL {
+            let (units, steps) = (random.between(1, 3), random.below(5));
+            let sheet = draw_sheet(family, units, steps, &mut random);
+            let (all_sets, plans) = (AllSets::new(&sheet), plans(&sheet, 0, sheet.start));
+            assert_eq!(plans.iter().map(|plan| plan.0).min(), Some(all_sets.fewest()), "{sheet:?}");
+            tally.add("fewest", 1);
+            for (i, u, on) in cells(&sheet) {
+                let cheapest = plans.iter().filter(|plan| has(plan.1[i], u) == on).map(|plan| plan.0).min();
+                assert_eq!(cheapest, all_sets.cheapest(i, u, on), "step {i}, unit {u}, on {on} of {sheet:?}");
+                tally.add("cells", 1);
+            }
+        }
+    }
+    tally.print("all plans");
+    tally.require(&[("fewest", 1000), ("cells", 5000)]);
+}
+
+/// The feasible plans of the steps from `i` on, with their totals.
+fn plans(sheet: &Sheet, i: usize, before: u64) -> Vec<(u32, Vec<u64>)> {
+    if i == sheet.steps.len() {
+        return vec![(0, vec![])];
+    }
+    let mut found = Vec::new();
+    for set in (0..1 << sheet.units).filter(|&set| feasible(&sheet.steps[i], set)) {
+        for (total, rest) in plans(sheet, i + 1, set) {
+            found.push((total + warm_ups(before, set), [&[set], &rest[..]].concat()));
+        }
+    }
+    found
+}

@@ -1,0 +1,54 @@
+-- `listing::charts::cells_of` is safe and ends: p counts up to the number of plans.
+use Prim.Native.Nat.{_≤_, _-_}
+use borrow.Author.Needs.{needs}
+use Rattle.all_plans.proofs.charts.cells_of.Statement.{statement}
+use Rattle.all_plans.proofs.charts.cells_of.Tie as tie
+
+abbrev Inv-loop : tie.InvT-loop
+Inv-loop sheet bound plans cells₀ p₀ cells p = p ≤ plans
+
+abbrev μ-loop : tie.MeasureT-loop
+μ-loop sheet bound plans cells₀ p₀ cells p = plans - p
+
+plans-of-requires : tie.Need-plans-of-requires Inv-loop μ-loop
+plans-of-requires c κs = search needs
+
+loop-holds : tie.Need-loop-holds Inv-loop μ-loop
+loop-holds c = search needs
+
+plan-at-requires : tie.Need-plan-at-requires Inv-loop μ-loop
+plan-at-requires c κs = search needs
+
+meets-requires : tie.Need-meets-requires Inv-loop μ-loop
+meets-requires c κs = search needs
+
+with-plan-requires : tie.Need-with-plan-requires Inv-loop μ-loop
+with-plan-requires c κs = search needs
+
+add-p : tie.Need-add-p Inv-loop μ-loop
+add-p c = search needs
+
+loop-less : tie.Need-loop-less Inv-loop μ-loop
+loop-less c = search needs
+
+loop-again : tie.Need-loop-again Inv-loop μ-loop
+loop-again c = search needs
+
+returns : tie.Need-returns Inv-loop μ-loop
+returns c = search needs
+
+pub cells-of-spec : {M : Type 1} → statement M
+cells-of-spec =
+    tie.close
+    (tie.spec
+    Inv-loop
+    μ-loop
+    plans-of-requires
+    loop-holds
+    plan-at-requires
+    meets-requires
+    with-plan-requires
+    add-p
+    loop-less
+    loop-again
+    returns)

@@ -1,0 +1,53 @@
+-- `list_plan::main` is safe: the listing lies within the array.
+use mathlib.Core.Path.{sym}
+use lib.Seq.{length-take-le}
+use borrow.Author.Needs.{needs}
+use Rattle.listing.proofs.Listings.{listing-within}
+use Rattle.list_plan.proofs.main.Statement.{statement}
+use Rattle.list_plan.proofs.main.Tie as tie
+use Rattle.list_plan.proofs.main.Reads as reads
+use Rattle.list_plan.proofs.main.Lts as lts
+use Rattle.io.proofs.read_full.Reads as read-full-reads
+use Rattle.io.proofs.write_all.Reads as write-all-reads
+use Rattle.listing.proofs.list_plan.Reads as list-plan-reads
+
+slice-aggregate-read-full : tie.Need-slice-aggregate-read-full
+slice-aggregate-read-full c = search needs
+
+read-full-requires : tie.Need-read-full-requires
+read-full-requires c κs = search needs
+
+array-share-prefix-input : tie.Need-array-share-prefix-input
+array-share-prefix-input c = search needs
+
+slice-aggregate-list-plan : tie.Need-slice-aggregate-list-plan
+slice-aggregate-list-plan c = search needs
+
+list-plan-requires : tie.Need-list-plan-requires
+list-plan-requires c κs = search needs
+
+array-share-prefix-text : tie.Need-array-share-prefix-text
+array-share-prefix-text c = listing-within _ _ (c .list-plan .ensures)
+
+slice-aggregate-write-all : tie.Need-slice-aggregate-write-all
+slice-aggregate-write-all c = sym (length-take-le (c .before .list-plan .result) (c .before .list-plan .last .1 .0) (listing-within _ _ (c .before .list-plan .ensures)))
+
+write-all-requires : tie.Need-write-all-requires
+write-all-requires c κs = search needs
+
+returns : tie.Need-returns
+returns c = search needs
+
+pub main-spec : {M : Type 1} → statement M
+main-spec =
+    tie.close
+    (tie.spec
+    slice-aggregate-read-full
+    read-full-requires
+    array-share-prefix-input
+    slice-aggregate-list-plan
+    list-plan-requires
+    array-share-prefix-text
+    slice-aggregate-write-all
+    write-all-requires
+    returns)

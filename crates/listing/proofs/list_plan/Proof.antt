@@ -1,0 +1,48 @@
+-- `listing::list_plan` meets its contract.
+use mathlib.Core.Path.{sym, ap, _∙_}
+use native.Mathlib.Omega.{arith}
+use denote.Ref.{now}
+use Rattle.sheet.specs.Told.{readTold}
+use Rattle.listing.proofs.Listings.{listing-unread}
+use Rattle.listing.proofs.Places.{placed-as, placed-first}
+use borrow.Author.Needs.{needs}
+use Rattle.listing.proofs.list_plan.Statement.{statement}
+use Rattle.listing.proofs.list_plan.Tie as tie
+use Rattle.listing.proofs.list_plan.Reads as reads
+use Rattle.listing.proofs.list_plan.Lts as lts
+use Rattle.listing.proofs.lines.put_refused_line.Reads as put-refused-line-reads
+use Rattle.listing.proofs.list_read.Reads as list-read-reads
+use Rattle.sheet.proofs.open.read.Reads as read-reads
+
+read-requires : tie.Need-read-requires
+read-requires c κs = search needs
+
+enum-known-x : tie.Need-enum-known-x
+enum-known-x c = search needs
+
+put-refused-line-requires : tie.Need-put-refused-line-requires
+put-refused-line-requires c κs = search needs
+
+enum-known-x-2 : tie.Need-enum-known-x-2
+enum-known-x-2 c = search needs
+
+list-read-requires : tie.Need-list-read-requires
+list-read-requires c κs = (sym (c .before .before .before .before .read .ensures) ∙ ap readTold (c .before .before .x2 .given .1), omega arith)
+
+returns : tie.Need-returns
+returns c = placed-first (placed-as (listing-unread (now (c .before .before .before .before .before .before .before .args .sheet)) (sym (c .before .before .before .before .before .read .ensures) ∙ ap readTold (c .before .before .before .x .given .1))) (c .put-refused-line .ensures))
+
+returns-2 : tie.Need-returns-2
+returns-2 c = placed-first (c .list-read .ensures)
+
+pub list-plan-spec : {M : Type 1} → statement M
+list-plan-spec =
+    tie.close
+    (tie.spec
+    read-requires
+    enum-known-x
+    put-refused-line-requires
+    enum-known-x-2
+    list-read-requires
+    returns
+    returns-2)

@@ -1,0 +1,84 @@
+-- The listing of a sheet: its plan or its refusal, as text.
+use Prim.Native.Nat.{ℕ, _+_}
+use mathlib.Core.List.{List, [], _∷_, _++_}
+use lib.ListN.{length}
+use Rattle.sheet.specs.Answer.{Answer, Refused, Given, unless}
+use Rattle.sheet.specs.Format.{unitsOf, boundOf, startOf}
+use Rattle.sheet.specs.Reading.{stepsOf, readCauses}
+use Rattle.switch.specs.Switch.{switches, total}
+use Rattle.warm.specs.Entries.{supportOn, boundCauses, written}
+use Rattle.listing.specs.Digits.{decimal, hexadecimal}
+
+-- ---- words
+
+-- "units "
+abbrev pub unitsWord : List ℕ
+unitsWord = 117 ∷ 110 ∷ 105 ∷ 116 ∷ 115 ∷ 32 ∷ []
+
+-- " steps "
+abbrev pub stepsWord : List ℕ
+stepsWord = 32 ∷ 115 ∷ 116 ∷ 101 ∷ 112 ∷ 115 ∷ 32 ∷ []
+
+-- " bound "
+abbrev pub boundWord : List ℕ
+boundWord = 32 ∷ 98 ∷ 111 ∷ 117 ∷ 110 ∷ 100 ∷ 32 ∷ []
+
+-- "total "
+abbrev pub totalWord : List ℕ
+totalWord = 116 ∷ 111 ∷ 116 ∷ 97 ∷ 108 ∷ 32 ∷ []
+
+-- "refused "
+abbrev pub refusedWord : List ℕ
+refusedWord = 114 ∷ 101 ∷ 102 ∷ 117 ∷ 115 ∷ 101 ∷ 100 ∷ 32 ∷ []
+
+abbrev pub blank : List ℕ
+blank = 32 ∷ []
+
+abbrev pub lineEnd : List ℕ
+lineEnd = 10 ∷ []
+
+-- ---- lines
+
+-- a word and a number
+abbrev pub field : List ℕ → ℕ → List ℕ
+field word x = word ++ decimal x
+
+-- "units 3 steps 4 bound 3": d, n and the bound
+unfoldable pub firstLine : ℕ → ℕ → ℕ → List ℕ
+firstLine d n bound = field unitsWord d ++ field stepsWord n ++ field boundWord bound ++ lineEnd
+
+-- "1 0000000000000001 1": the step, the set that is on in sixteen hexadecimal digits, its switches
+unfoldable pub stepLine : ℕ → ℕ → ℕ → List ℕ
+stepLine i x many = decimal i ++ blank ++ hexadecimal 16 x ++ field blank many ++ lineEnd
+
+-- the lines of the steps from number i on, where `before` is on before them
+unfoldable pub stepLines : ℕ → ℕ → List ℕ → List ℕ
+stepLines i before [] = []
+stepLines i before (x ∷ xs) = stepLine i x (switches before x) ++ stepLines (i + 1) x xs
+
+-- "total 3"
+unfoldable pub totalLine : ℕ → List ℕ
+totalLine many = field totalWord many ++ lineEnd
+
+-- "refused 9 3": the number and the place
+unfoldable pub refusedLine : ℕ → ℕ → List ℕ
+refusedLine n p = field refusedWord n ++ field blank p ++ lineEnd
+
+-- all lines of a plan: d, n, the bound, the start set, the plan and its total
+unfoldable pub planLines : ℕ → ℕ → ℕ → ℕ → List ℕ → ℕ → List ℕ
+planLines d n bound start plan many = firstLine d n bound ++ stepLines 1 start plan ++ totalLine many
+
+-- ---- the listing
+
+-- of a refusal, or of a plan for that sheet
+unfoldable pub listed : List ℕ → Answer (List ℕ) → List ℕ
+listed s (Refused n p) = refusedLine n p
+listed s (Given plan) = planLines (unitsOf s) (length (stepsOf s)) (boundOf s) (startOf s) plan (total (startOf s) plan)
+
+-- of any bytes: one refusal of 1 to 7 or 9, or the plan that FindSupport gives
+unfoldable pub listing : List ℕ → List ℕ
+listing s = listed s (unless (readCauses s ++ boundCauses s) (Given (supportOn s)))
+
+-- how many bytes are put into an output that has room, and what it holds afterwards
+abbrev pub listPlan : List ℕ → List ℕ → ℕ × List ℕ
+listPlan s out = (length (listing s), written (listing s) out)
