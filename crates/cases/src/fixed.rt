@@ -38,14 +38,21 @@ fn put_plain_head(bytes: &mut Space, units: usize, records: usize)
     );
 }
 
-// Puts 256 steps into the records 1 to 256.
-fn put_most_steps(bytes: &mut Space) {
-    put_plain_head(bytes, 1, 256);
+// The limits of step k, of two that take turns.
+fn in_turn(k: usize, odd: Limits, even: Limits) -> Limits {
+    if k % 2 == 1 {
+        return odd;
+    }
+    even
+}
+
+// Puts 256 steps into the records 1 to 256, with two kinds of limits in turns.
+pub fn put_most_steps(bytes: &mut Space, odd: Limits, even: Limits) {
     let mut k = 0;
     while k < 256 {
         put_link(bytes, k, k + 1);
         k += 1;
-        put_limits(bytes, k, any_of(1));
+        put_limits(bytes, k, in_turn(k, odd, even));
     }
     put_link(bytes, 256, 0);
 }
@@ -63,7 +70,8 @@ fn summary(units: u32, steps: u32) -> Summary {
 // Tries the longest sheet, and a byte more.
 fn try_longest() -> Tally {
     let mut bytes = [0u8; SPACE];
-    put_most_steps(&mut bytes);
+    put_plain_head(&mut bytes, 1, 256);
+    put_most_steps(&mut bytes, any_of(1), any_of(1));
     let longest = Tally::of(is_read(&bytes, LONGEST, summary(1, 256)));
     let longer = Tally::of(is_refused(&bytes, LONGEST + 1, 1, 0));
     longest.plus(longer)

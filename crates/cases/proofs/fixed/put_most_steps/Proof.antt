@@ -5,13 +5,10 @@ use Rattle.cases.proofs.fixed.put_most_steps.Statement.{statement}
 use Rattle.cases.proofs.fixed.put_most_steps.Tie as tie
 
 abbrev Inv-loop : tie.InvT-loop
-Inv-loop bytes₀ k₀ bytes k = k ≤ 256
+Inv-loop bytes₀ odd even k₀ bytes k = k ≤ 256
 
 abbrev μ-loop : tie.MeasureT-loop
-μ-loop bytes₀ k₀ bytes k = 256 - k
-
-put-plain-head-requires : tie.Need-put-plain-head-requires Inv-loop μ-loop
-put-plain-head-requires c κs = search needs
+μ-loop bytes₀ odd even k₀ bytes k = 256 - k
 
 loop-holds : tie.Need-loop-holds Inv-loop μ-loop
 loop-holds c = search needs
@@ -25,8 +22,8 @@ put-link-requires c κs = search needs
 add-k : tie.Need-add-k Inv-loop μ-loop
 add-k c = search needs
 
-any-of-requires : tie.Need-any-of-requires Inv-loop μ-loop
-any-of-requires c κs = search needs
+in-turn-requires : tie.Need-in-turn-requires Inv-loop μ-loop
+in-turn-requires c κs = search needs
 
 put-limits-requires : tie.Need-put-limits-requires Inv-loop μ-loop
 put-limits-requires c κs = search needs
@@ -49,12 +46,11 @@ put-most-steps-spec =
     (tie.spec
     Inv-loop
     μ-loop
-    put-plain-head-requires
     loop-holds
     add-put-link
     put-link-requires
     add-k
-    any-of-requires
+    in-turn-requires
     put-limits-requires
     loop-less
     loop-again

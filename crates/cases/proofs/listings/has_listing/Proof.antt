@@ -1,0 +1,48 @@
+-- `cases::listings::has_listing` is safe: the listing lies within the array.
+use mathlib.Core.Path.{sym}
+use lib.Seq.{length-take-le}
+use borrow.Author.Needs.{needs}
+use Rattle.listing.proofs.Listings.{listing-within}
+use Rattle.cases.proofs.listings.has_listing.Statement.{statement}
+use Rattle.cases.proofs.listings.has_listing.Tie as tie
+use Rattle.cases.proofs.listings.has_listing.Reads as reads
+use Rattle.cases.proofs.listings.has_listing.Lts as lts
+use Rattle.check.proofs.same.Reads as same-reads
+use Rattle.listing.proofs.list_plan.Reads as list-plan-reads
+
+sub-list-plan : tie.Need-sub-list-plan
+sub-list-plan c = search needs
+
+part-list-plan-start : tie.Need-part-list-plan-start
+part-list-plan-start c = search needs
+
+part-list-plan-end : tie.Need-part-list-plan-end
+part-list-plan-end c = search needs
+
+list-plan-requires : tie.Need-list-plan-requires
+list-plan-requires c κs = search needs
+
+array-share-prefix-text : tie.Need-array-share-prefix-text
+array-share-prefix-text c = listing-within _ _ (c .list-plan .ensures)
+
+slice-aggregate-same : tie.Need-slice-aggregate-same
+slice-aggregate-same c = sym (length-take-le (c .before .list-plan .result) (c .before .list-plan .last .1 .0) (listing-within _ _ (c .before .list-plan .ensures)))
+
+same-requires : tie.Need-same-requires
+same-requires c κs = search needs
+
+returns : tie.Need-returns
+returns c = search needs
+
+pub has-listing-spec : {M : Type 1} → statement M
+has-listing-spec =
+    tie.close
+    (tie.spec
+    sub-list-plan
+    part-list-plan-start
+    part-list-plan-end
+    list-plan-requires
+    array-share-prefix-text
+    slice-aggregate-same
+    same-requires
+    returns)
