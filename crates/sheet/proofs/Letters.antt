@@ -1,6 +1,6 @@
 -- The four letters at the front of a list of bytes, as the reader compares them.
 use mathlib.Core.Path.{_≡_, refl}
-use mathlib.Core.Bool.{Bool, _&&_, true, false}
+use mathlib.Core.Bool.{_&&_, true}
 use mathlib.Core.List.{List, [], _∷_}
 use Prim.Native.Nat.{ℕ, _≤_}
 use native.Mathlib.Omega.{arith}
@@ -8,10 +8,6 @@ use lib.Dec.{eqb}
 use lib.ListN.{length, getD}
 use Rattle.sheet.specs.Format.{letters, lettersOf}
 use Rattle.sheet.specs.Reading.{same}
-
-pub last : (b : Bool) → (b && true) ≡ b
-last true = refl
-last false = refl
 
 pub spelled : (s : List ℕ) → 4 ≤ length s
     → same (lettersOf s) letters ≡ (eqb (getD s 0 0) 87 && (eqb (getD s 1 0) 65 && (eqb (getD s 2 0) 82 && (eqb (getD s 3 0) 77 && true))))

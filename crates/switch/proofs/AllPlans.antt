@@ -2,15 +2,15 @@
 -- (`Shows`, `SomePlan`).
 use mathlib.Core.Path.{_≡_, refl, sym, ap, _∙_, subst}
 use mathlib.Core.Logic.{⊎-elim, _↔_}
-use mathlib.Core.Bool.{Bool, true, false, cond, _&&_, false≢true}
+use mathlib.Core.Bool.{Bool, true, false, cond, false≢true, and-eq-true-iff}
 use mathlib.Core.List.{List, [], _∷_, _++_, map, List·Memᴰ, List·Memᴰ·head, List·Memᴰ·tail, List·Memᴰ·not-nil, List·Memᴰ·cases-cons, List·Memᴰ·append-cases, List·Memᴰ·eq-of-singleton, Memᴰ·append-left, Memᴰ·append-right, Memᴰ·cast, Memᴰ·map, Memᴰ·of-map}
 use Prim.Native.Nat.{ℕ, zero, suc, _^_, _≤_, _<_}
 use native.Mathlib.Decide.{ℕ-discrete}
 use native.Mathlib.Omega.{arith}
 use lib.ListN.{length, getD}
 use borrow.Author.Tests.{leb-true, le-leb}
-use Rattle.units.specs.Sets.{bit, Subset}
-use Rattle.units.proofs.Sets.{bit-le, bit-cases, below-pow, unit-below, subset-holds, subset-test}
+use Rattle.units.specs.Sets.{bit}
+use Rattle.units.proofs.Sets.{subset-below, subset-holds, subset-test}
 use Rattle.switch.specs.Switch.{Limits, Allows, FeasiblePlan, total}
 use Rattle.switch.specs.Plans.{select, below, allows, prefixed, Below, plansOf}
 
@@ -72,19 +72,14 @@ member-prefixed {ps} (List·Memᴰ·tail {x = y} h) m = Memᴰ·append-right (ma
 
 -- ---- the test of a step
 
--- what holds of two tests holds of each
-both : (a b : Bool) → a && b ≡ true → (a ≡ true) × (b ≡ true)
-both true b h = (refl, h)
-both false b h = absurd (false≢true h)
-
 -- a set passes the test exactly if the step allows it
 pub allows-exactly : (s : Limits) (x : ℕ) → allows s x ≡ true ↔ Allows s x
 unfolding allows
 allows-exactly s x = (
   λ t.
-      let few = both _ _ t in
-      let enough = both _ _ (few .0) in
-      let inside = both _ _ (enough .0) in
+      let few = and-eq-true-iff _ _ .0 t in
+      let enough = and-eq-true-iff _ _ .0 (few .0) in
+      let inside = and-eq-true-iff _ _ .0 (enough .0) in
       record {
         includes = subset-holds (s .lower) x (inside .0);
         within = subset-holds x (s .upper) (inside .1);
@@ -95,12 +90,6 @@ allows-exactly s x = (
 )
 
 -- ---- the plans
-
--- a set within one of units below d has units below d alone
-subset-below : (d a b : ℕ) → Subset a b → b < 2 ^ d → a < 2 ^ d
-subset-below d a b h l =
-    below-pow d a
-    (λ u k. ⊎-elim (λ e. e) (λ e. absurd (omega (arith, unit-below d b u l (omega (arith, h u, bit-le b u))))) (bit-cases a u))
 
 -- a feasible plan has as many sets as there are steps
 pub plan-length : (ss : List Limits) (p : List ℕ) → FeasiblePlan ss p → length p ≡ length ss

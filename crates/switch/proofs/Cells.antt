@@ -5,14 +5,13 @@ use mathlib.Core.Logic.{⊎-elim, _↔_}
 use mathlib.Core.Bool.{Bool, true, false}
 use mathlib.Core.List.{List, [], _∷_, map, map-id, List·Memᴰ, List·Memᴰ·head, List·Memᴰ·tail, List·Memᴰ·not-nil, List·Memᴰ·cases-cons}
 use Prim.Native.Nat.{ℕ, zero, suc, _+_, _-_, _^_, _≤_, _<_, max}
-use native.Mathlib.Nat.{pow-suc}
 use native.Mathlib.Omega.{arith}
 use lib.Dec.{leb}
 use lib.ListN.{length, getD, length-replicate, getD-replicate}
 use lib.Pow.{pow-pos}
 use borrow.Author.Tests.{leb-true, le-leb}
 use Rattle.units.specs.Sets.{bit, difference}
-use Rattle.units.proofs.Sets.{bit-zero, bit-suc, bit-le, bit-cases, bit-empty, bit-union, bit-difference, unit-below}
+use Rattle.units.proofs.Sets.{bit-le, bit-cases, bit-empty, bit-full, bit-union, bit-difference, unit-below}
 use Rattle.switch.specs.Switch.{Limits, FeasiblePlan, total}
 use Rattle.switch.specs.Plans.{Below, plansOf, plansWithin, joined, joinedAll, canBeOn, canBeOff, canBe}
 use Rattle.switch.proofs.AllPlans.{Shows, SomePlan, select-member, plan-length, plan-below, listed-feasible, feasible-listed}
@@ -75,13 +74,6 @@ module _ (f : ℕ → ℕ) where
 abbrev charted : Bool → ℕ → ℕ → ℕ
 charted true d x = x
 charted false d x = difference (2 ^ d - 1) x
-
--- the set 2 ^ d - 1 has all units below d
-bit-full : (d u : ℕ) → u < d → bit (2 ^ d - 1) u ≡ 1
-bit-full zero u l = absurd (omega arith)
-bit-full (suc d) zero l = omega (arith, bit-zero (2 ^ suc d - 1), pow-suc 2 d, pow-pos d)
-bit-full (suc d) (suc u) l =
-    bit-suc (2 ^ suc d - 1) u ∙ ap (λ (x : ℕ). bit x u) (omega (arith, pow-suc 2 d, pow-pos d)) ∙ bit-full d u (omega arith)
 
 module _ (d bound start : ℕ) (ss : List Limits) where
   -- this is the one definition of both

@@ -1,6 +1,6 @@
 -- Laws on the check of a plan: what holds after some of its steps.
 use mathlib.Core.Path.{_≡_, refl, sym, ap, _∙_}
-use mathlib.Core.Bool.{Bool, true, false, _&&_}
+use mathlib.Core.Bool.{Bool, true, _&&_, and-true, and-assoc}
 use mathlib.Core.List.{List, [], _∷_}
 use Prim.Native.Nat.{ℕ, _+_, _*_, _≤_, _<_}
 use native.Mathlib.Numerals.{add-one}
@@ -10,14 +10,6 @@ use lib.Seq.{drop-cons}
 use Rattle.units.specs.Sets.{difference, size}
 use Rattle.switch.specs.Plans.{allows, isFeasible}
 use Rattle.switch.specs.Switch.{Limits, switches, total}
-
-and-assoc : (a b c : Bool) → (a && (b && c)) ≡ ((a && b) && c)
-and-assoc true b c = refl
-and-assoc false b c = refl
-
-and-true : (a : Bool) → (a && true) ≡ a
-and-true true = refl
-and-true false = refl
 
 -- after i sets, what was found with what is still to be found is all
 pub record Checking (ss : List Limits) (start : ℕ) (plan : List ℕ) (i before : ℕ) (feasible : Bool) (sum : ℕ) : Type 0 where
@@ -37,7 +29,7 @@ module _ {ss : List Limits} {start : ℕ} {plan : List ℕ} {i before : ℕ} {fe
       let rest : drop i plan ≡ x ∷ drop (i + 1) plan = drop-cons plan i 0 h ∙ ap (λ (k : ℕ). x ∷ drop k plan) (sym (add-one i)) in
       record {
         tested =
-            sym (and-assoc feasible (allows s x) (isFeasible (drop (i + 1) ss) (drop (i + 1) plan)))
+            and-assoc feasible (allows s x) (isFeasible (drop (i + 1) ss) (drop (i + 1) plan))
             ∙ ap (λ p. feasible && isFeasible (s ∷ drop (i + 1) ss) p) (sym rest)
             ∙ ap (λ t. feasible && isFeasible t (drop i plan)) (sym e)
             ∙ g .tested;

@@ -1,15 +1,14 @@
 -- The first k units of a set in an order: what is meant by them (`Chosen`), that `taken` has them (`taken-chosen`), and that no other set does
 -- (`chosen-unique`).
-use mathlib.Core.Path.{_≡_, refl, sym, ap, _∙_}
+use mathlib.Core.Path.{_≡_, refl, sym, _∙_}
 use mathlib.Core.Logic.{_⊎_, inl, inr, ⊎-elim}
 use mathlib.Core.Bool.{Bool, true, false, cond, false≢true}
 use mathlib.Core.List.{List, [], _∷_, List·Memᴰ, List·Memᴰ·head, List·Memᴰ·tail, List·Memᴰ·not-nil, List·Memᴰ·eq-of-singleton, List·Memᴰ·cases-cons}
-use Prim.Native.Nat.{ℕ, zero, suc, _^_, _≤_, _<_}
-use native.Mathlib.Nat.{pow-suc}
+use Prim.Native.Nat.{ℕ, zero, suc, _≤_, _<_}
 use native.Mathlib.Decide.{ℕ-discrete}
 use native.Mathlib.Omega.{arith}
 use Rattle.units.specs.Sets.{bit, Subset, insert, remove, size}
-use Rattle.units.proofs.Sets.{bit-empty, bit-le, bit-cases, bit-insert, bit-insert-other, bit-remove, bit-remove-other, set-ext, size-empty, size-insert, size-remove, unit-below, unit-outside, units-named, named-units}
+use Rattle.units.proofs.Sets.{below-own-power, bit-empty, bit-le, bit-cases, bit-insert, bit-insert-other, bit-remove, bit-remove-other, insert-subset, remove-subset, set-ext, size-empty, size-insert, size-remove, unit-below, unit-outside, other-unit, units-named, named-units}
 use Rattle.switch.specs.Support.{unitsOf, firstIn, taken}
 use Rattle.switch.proofs.Orders.{Ordered, asymmetric, other-way, not-before}
 
@@ -23,11 +22,6 @@ pub record Chosen (before : ℕ → ℕ → Bool) (k c g : ℕ) : Type 0 where
   pub inside : Subset g c
   pub counted : size g ≡ k
   pub ahead : (v w : ℕ) → bit g v ≡ 1 → bit c w ≡ 1 → bit g w ≡ 0 → before v w ≡ true
-
--- so that a set has no unit from its own number up
-below-own-power : (c : ℕ) → c < 2 ^ c
-below-own-power zero = omega arith
-below-own-power (suc c) = omega (arith, below-own-power c, pow-suc 2 c)
 
 module _ {before : ℕ → ℕ → Bool} (o : Ordered before) where
   -- the unit that `firstIn` picks of a list is the first: of the head and the first of the tail it is the one that goes before the other
@@ -63,17 +57,13 @@ module _ {before : ℕ → ℕ → Bool} (o : Ordered before) where
   -- the first unit of a set and the first k of the rest are the first k + 1
   pub one-more : (k c u g : ℕ) → First before (λ x. bit c x ≡ 1) u → Chosen before k (remove c u) g → Chosen before (suc k) c (insert g u)
   one-more k c u g f r = record {
-    inside = λ v. inside v (ℕ-discrete v u);
+    inside = insert-subset g c u (λ v. omega (arith, r .inside v, remove-subset c u v)) (f .member);
     counted = omega (arith, size-insert g u lacks, r .counted);
     ahead = λ v w p q z. ahead v w (ℕ-discrete v u) (ℕ-discrete w u) p q z;
   }
     where
       lacks : bit g u ≡ 0
       lacks = omega (arith, r .inside u, bit-remove c u)
-
-      inside : (v : ℕ) → Dec (v ≡ u) → bit (insert g u) v ≤ bit c v
-      inside v (yes e) = rw e (omega (arith, bit-le (insert g u) u, f .member))
-      inside v (no n) = omega (arith, bit-insert-other g u v n, bit-remove-other c u v n, r .inside v)
 
       ahead : (v w : ℕ) → Dec (v ≡ u) → Dec (w ≡ u) → bit (insert g u) v ≡ 1 → bit c w ≡ 1 → bit (insert g u) w ≡ 0 → before v w ≡ true
       ahead v w d (yes e) p q z = absurd (omega (arith, bit-insert g u, rw e at z))
@@ -103,11 +93,9 @@ module _ {before : ℕ → ℕ → Bool} (o : Ordered before) where
       go (inl a) y = omega arith
       go (inr a) (inr b) = omega arith
       go (inr a) (inl b) =
-          let out = unit-outside h (remove g u) (omega (arith, size-remove g u a, p .counted, q .counted)) in
-          let v = out .0 in
-          let lacks : bit g v ≡ 0 = sym (bit-remove-other g u v (λ e. omega (arith, out .1 .0, ap (λ (x : ℕ). bit h x) e))) ∙ out .1 .1 in
-          let forth = p .ahead u v a (omega (arith, out .1 .0, q .inside v, bit-le c v)) lacks in
-          let back = q .ahead v u (out .1 .0) (omega (arith, p .inside u, bit-le c u)) b in
+          let (v, (has, lacks)) = other-unit g h u a b (omega (arith, p .counted, q .counted)) in
+          let forth = p .ahead u v a (omega (arith, q .inside v, bit-le c v)) lacks in
+          let back = q .ahead v u has (omega (arith, p .inside u, bit-le c u)) b in
           absurd (false≢true (sym (asymmetric o u v forth) ∙ back))
 
   pub chosen-unique : {k c g h : ℕ} → Chosen before k c g → Chosen before k c h → g ≡ h

@@ -5,10 +5,10 @@ use Prim.Native.Nat.{ℕ, _+_, _≤_}
 use native.Mathlib.Decide.{decLe}
 use native.Mathlib.Omega.{arith}
 use Rattle.units.specs.Sets.{bit, insert, remove}
-use Rattle.units.proofs.Sets.{bit-le, bit-remove, size-insert}
+use Rattle.units.proofs.Sets.{bit-le, bit-remove, insert-remove, insert-subset, size-insert, subset-insert, subset-without}
 use Rattle.switch.specs.Switch.{Limits, Allows, FeasiblePlan, switches, total}
 use Rattle.switch.proofs.Stands.{StandsFor}
-use Rattle.switch.proofs.Totals.{insert-remove, insert-subset, subset-insert, subset-without, switches-both, switches-from}
+use Rattle.switch.proofs.Totals.{switches-both, switches-from}
 
 -- the steps ss have a plan that is no worse by `cost` than any by `other`: for each feasible plan P some feasible plan Q costs no more
 abbrev pub NoWorse : List Limits → (List ℕ → ℕ) → (List ℕ → ℕ) → Type 0

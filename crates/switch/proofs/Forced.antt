@@ -1,23 +1,21 @@
 -- A step in which a unit is forced, on or off. The feasible plans are then those that have the unit so anyway (`feasible-forced`). So a unit can be
 -- on, or off, in a step exactly if FindSupport's plan with the unit forced there is within the bound (`forced-within`, `forced-none`).
-use mathlib.Core.Path.{_≡_, sym, ap, _∙_}
+use mathlib.Core.Path.{_≡_, sym, _∙_}
 use mathlib.Core.Logic.{_↔_}
 use mathlib.Core.Bool.{Bool, true, false, false≢true}
 use mathlib.Core.List.{List, [], _∷_}
-use Prim.Native.Nat.{ℕ, zero, suc, _^_, _≤_, _<_}
-use native.Mathlib.Decide.{ℕ-discrete}
+use Prim.Native.Nat.{ℕ, zero, suc, _≤_, _<_}
 use native.Mathlib.Omega.{arith}
 use lib.ListN.{length, getD, set}
 use Rattle.units.specs.Limits.{hasFeasible}
-use Rattle.units.specs.Sets.{bit, Subset, insert, remove}
+use Rattle.units.specs.Sets.{insert, remove}
 use Rattle.units.proofs.Limits.{some-feasible}
-use Rattle.units.proofs.Sets.{bit-le, bit-insert, bit-remove, bit-remove-other, bit-difference}
+use Rattle.units.proofs.Sets.{bit-le, bit-insert, bit-remove, insert-subset, subset-insert, remove-subset, subset-remove}
 use Rattle.switch.specs.Switch.{Limits, Allows, FeasiblePlan, total, Satisfiable}
 use Rattle.switch.specs.Support.{findSupport}
 use Rattle.switch.proofs.AllPlans.{Shows, SomePlan, allows-at}
 use Rattle.switch.proofs.Greedy.{plan-greedy}
 use Rattle.switch.proofs.Optimal.{optimal}
-use Rattle.switch.proofs.Totals.{insert-subset, subset-insert}
 
 -- ---- one step
 
@@ -29,18 +27,6 @@ forced false u s = record { lower = s .lower; upper = remove (s .upper) u; least
 -- the test that a step has a feasible set
 abbrev pub someSet : Limits → Bool
 someSet s = hasFeasible (s .lower) (s .upper) (s .least) (s .greatest)
-
--- y without v is within y, and x is within it, if x is within y and lacks v
-pub remove-subset : (y v : ℕ) → Subset (remove y v) y
-unfolding remove
-remove-subset y v u = omega (arith, bit-difference y (2 ^ v) u)
-
-pub subset-remove : (x y v : ℕ) → Subset x y → bit x v ≡ 0 → Subset x (remove y v)
-subset-remove x y v h e u = go (ℕ-discrete u v)
-  where
-    go : Dec (u ≡ v) → bit x u ≤ bit (remove y v) u
-    go (yes q) = omega (arith, ap (bit x) q)
-    go (no n) = omega (arith, bit-remove-other y v u n, h u)
 
 -- the forced step allows those sets of the step that have the unit so
 allows-forced : (on : Bool) (u : ℕ) (s : Limits) (x : ℕ) → Allows (forced on u s) x ↔ (Allows s x × Shows on u x)

@@ -1,48 +1,19 @@
 -- The set that FindSupport takes in a step is greedy, for every ranking that fits (`support-greedy`), and so is the plan (`plan-greedy`).
-use mathlib.Core.Path.{_≡_, refl, ap}
-use mathlib.Core.Logic.{_⊎_, inl, inr}
+use mathlib.Core.Path.{_≡_, refl}
 use mathlib.Core.Bool.{Bool, true}
 use mathlib.Core.List.{List, [], _∷_}
 use Prim.Native.Nat.{ℕ, _+_, _-_, _≤_, min, max}
 use native.Mathlib.Omega.{arith}
 use lib.ListN.{length}
-use Rattle.units.specs.Sets.{bit, union, intersection, difference, Subset, size}
+use Rattle.units.specs.Sets.{bit, union, intersection, difference, size}
 use Rattle.units.proofs.Limits.{some-feasible}
-use Rattle.units.proofs.Sets.{bit-le, bit-cases, bit-union, bit-intersection, bit-difference, set-ext, size-split, size-mono, size-remove}
+use Rattle.units.proofs.Sets.{bit-le, bit-union, bit-intersection, bit-difference, bit-le-size, size-mono, size-difference, size-difference-le, size-union}
 use Rattle.switch.specs.Switch.{Satisfiable, Limits, Allows}
 use Rattle.switch.specs.Support.{taken, ranksBefore, supportSet, supportFrom, findSupport}
 use Rattle.switch.proofs.Chosen.{Chosen, taken-chosen}
 use Rattle.switch.proofs.Orders.{mirror-ordered}
 use Rattle.switch.proofs.Ranks.{Refines, ranks-refines}
 use Rattle.switch.proofs.Stands.{StandsFor, Greedy, GreedyPlan}
-
--- ---- sizes
-
--- a set with a unit has one at the least
-bit-size : (a u : ℕ) → bit a u ≤ size a
-bit-size a u = go (bit-cases a u)
-  where
-    go : (bit a u ≡ 0) ⊎ (bit a u ≡ 1) → bit a u ≤ size a
-    go (inl e) = omega arith
-    go (inr e) = omega (arith, size-remove a u e)
-
--- without the units of a, a set has at the most so many less
-pub size-rest : (a b : ℕ) → size b ≤ size (difference b a) + size a
-size-rest a b = omega (arith, size-split b a, size-mono (intersection b a) a (λ u. omega (arith, bit-intersection b a u)))
-
--- and just so many less if it has them all
-pub size-without : (a b : ℕ) → Subset a b → size b ≡ size (difference b a) + size a
-size-without a b h =
-    omega (arith, size-split b a, ap size (set-ext (intersection b a) a (λ u. omega (arith, bit-intersection b a u, h u))))
-
--- sets without a common unit have together as many as both
-size-union : (a b : ℕ) → ((u : ℕ) → bit a u + bit b u ≤ 1) → size (union a b) ≡ size a + size b
-size-union a b h =
-    omega (
-      arith,
-      size-without a (union a b) (λ u. omega (arith, bit-union a b u)),
-      ap size (set-ext (difference (union a b) a) b (λ u. omega (arith, bit-difference (union a b) a u, bit-union a b u, h u))),
-    )
 
 -- ---- the set of a step
 
@@ -79,11 +50,11 @@ module _ (ranks : ℕ → ℕ → Bool) (s : Limits) (before : ℕ) where
     -- there are as many units to leave and to join as are wanted
     leaving-chosen : Chosen (λ u v. ranks v u) (size begun - s .greatest) (difference begun (s .lower)) leaving
     unfolding leaving
-    leaving-chosen = taken-chosen (mirror-ordered (r .ordered)) _ _ (omega (arith, size-rest (s .lower) begun, size-mono (s .lower) x (f .includes)))
+    leaving-chosen = taken-chosen (mirror-ordered (r .ordered)) _ _ (omega (arith, size-difference-le begun (s .lower), size-mono (s .lower) x (f .includes)))
 
     joining-chosen : Chosen ranks (s .least - size kept) (difference (s .upper) kept) joining
     unfolding joining
-    joining-chosen = taken-chosen (r .ordered) _ _ (omega (arith, size-rest kept (s .upper), size-mono x (s .upper) (f .within)))
+    joining-chosen = taken-chosen (r .ordered) _ _ (omega (arith, size-difference-le (s .upper) kept, size-mono x (s .upper) (f .within)))
 
     -- so this holds of each unit
     digits-of : (u : ℕ)
@@ -103,7 +74,7 @@ module _ (ranks : ℕ → ℕ → Bool) (s : Limits) (before : ℕ) where
     -- and this of the sizes
     kept-size : size kept ≡ min (size begun) (s .greatest)
     unfolding kept
-    kept-size = omega (arith, size-without leaving begun (λ u. omega (arith, digits-of u)), leaving-chosen .counted)
+    kept-size = omega (arith, size-difference begun leaving (λ u. omega (arith, digits-of u)), leaving-chosen .counted)
 
     support-size : size (supportSet ranks s before) ≡ max (size kept) (s .least)
     support-size =
@@ -126,16 +97,16 @@ module _ (ranks : ℕ → ℕ → Bool) (s : Limits) (before : ℕ) where
       };
       leaves = λ w b a g.
           let left : bit leaving w ≡ 1 = omega (arith, digits-of w) in
-          let full : size kept ≡ s .greatest = omega (arith, kept-size, bit-size leaving w, leaving-chosen .counted) in (
+          let full : size kept ≡ s .greatest = omega (arith, kept-size, bit-le-size leaving w, leaving-chosen .counted) in (
             omega (arith, support-size),
             λ v t l.
-                let none : bit joining v ≡ 0 = omega (arith, bit-size joining v, joining-chosen .counted) in
+                let none : bit joining v ≡ 0 = omega (arith, bit-le-size joining v, joining-chosen .counted) in
                 let stays : bit (difference begun (s .lower)) v ≡ 1 = omega (arith, digits-of v, bit-difference begun (s .lower) v) in
                 (omega (arith, digits-of v), stands-after v w (leaving-chosen .ahead w v left stays (omega (arith, digits-of v))) l a),
           );
       joins = λ v t b l.
           let joined : bit joining v ≡ 1 = omega (arith, digits-of v) in (
-            omega (arith, support-size, bit-size joining v, joining-chosen .counted),
+            omega (arith, support-size, bit-le-size joining v, joining-chosen .counted),
             λ w a g.
                 let free : bit (difference (s .upper) kept) w ≡ 1 = omega (arith, digits-of w, bit-difference (s .upper) kept w) in
                 stands-after v w (joining-chosen .ahead v w joined free (omega (arith, digits-of w))) l a,

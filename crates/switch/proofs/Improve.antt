@@ -1,29 +1,15 @@
 -- No feasible set of a step is better than a greedy one, with the steps that follow in view.
-use mathlib.Core.Path.{_≡_, refl, ap, subst}
+use mathlib.Core.Path.{_≡_, ap, subst}
 use mathlib.Core.Logic.{_⊎_, inl, inr}
 use mathlib.Core.List.{List}
 use Prim.Native.Nat.{ℕ, zero, suc, _+_, _≤_, _<_}
 use native.Mathlib.Omega.{arith}
-use Rattle.units.specs.Sets.{bit, difference, Subset, insert, remove}
-use Rattle.units.proofs.Sets.{bit-cases, bit-difference, bit-empty, bit-insert, bit-le, bit-remove, set-ext, size-insert, size-mono, some-unit}
+use Rattle.units.specs.Sets.{bit, Subset, insert, remove}
+use Rattle.units.proofs.Sets.{Missing, bit-cases, bit-insert, bit-le, bit-remove, insert-remove, insert-subset, set-ext, size-insert, size-mono, subset-insert, subset-or-missing, subset-without}
 use Rattle.switch.specs.Switch.{Limits, Allows, switches, total}
 use Rattle.switch.proofs.Stands.{Greedy, StandsFor}
-use Rattle.switch.proofs.Totals.{insert-remove, insert-subset, subset-insert, subset-without, switches-from, switches-insert, total-from}
+use Rattle.switch.proofs.Totals.{switches-from, switches-insert, total-from}
 use Rattle.switch.proofs.Exchange.{NoWorse, allows-exchange, exchange}
-
--- a unit of a that b lacks
-abbrev Missing : ℕ → ℕ → Type 0
-Missing a b = (u : ℕ) × ((bit a u ≡ 1) × (bit b u ≡ 0))
-
--- a set is a subset of another, or has a unit that the other lacks
-some-missing : (a b : ℕ) → Subset a b ⊎ Missing a b
-some-missing a b = go (difference a b) refl
-  where
-    go : (d : ℕ) → difference a b ≡ d → Subset a b ⊎ Missing a b
-    go zero e = inl (λ u. omega (arith, bit-difference a b u, ap (λ (d : ℕ). bit d u) e, bit-empty u))
-    go (suc d) e =
-        let r = some-unit (difference a b) (omega arith) in
-        inr (r .0, omega (arith, bit-difference a b (r .0), bit-le a (r .0)))
 
 -- in how many units two sets differ
 abbrev apart : ℕ → ℕ → ℕ
@@ -131,7 +117,7 @@ module _ {s : Limits} {ss : List Limits} {before g : ℕ} (greedy : Greedy s ss 
 
   -- from each feasible set other than g there is a move
   move : (x : ℕ) → Allows s x → (x ≡ g) ⊎ Nearer x
-  move x a = go (some-missing x g) (some-missing g x)
+  move x a = go (subset-or-missing x g) (subset-or-missing g x)
     where
       less : (y w : ℕ) → bit y w ≡ 0 → bit g w ≡ 0 → Allows s (insert y w) → Subset g (insert y w) ⊎ Missing g (insert y w) → Nearer (insert y w)
       less y w yw gw a (inl sub) = shrunk y w sub yw gw a

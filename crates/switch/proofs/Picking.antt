@@ -7,14 +7,14 @@ use mathlib.Core.Path.{_≡_, refl, sym, ap, _∙_, subst}
 use mathlib.Core.Logic.{_⊎_, inl, inr}
 use mathlib.Core.Bool.{Bool, true, false, cond}
 use mathlib.Core.List.{List, [], _∷_}
-use Prim.Native.Nat.{ℕ, suc, _+_, _-_, _^_, _≤_, _<_, min}
+use Prim.Native.Nat.{ℕ, suc, _+_, _-_, _≤_, _<_, min}
 use native.Mathlib.Decide.{decLt}
 use native.Mathlib.Omega.{arith}
 use borrow.Author.Tests.{le-ltb}
 use lib.Dec.{ltb}
 use lib.ListN.{length}
 use Rattle.units.specs.Sets.{bit, union, intersection, difference, Subset, insert, remove, size}
-use Rattle.units.proofs.Sets.{bit-le, bit-cases, bit-union, bit-intersection, bit-difference, bit-empty, set-ext, size-split, size-mono, size-remove}
+use Rattle.units.proofs.Sets.{bit-le, bit-cases, bit-union, bit-intersection, bit-difference, set-ext, union-assoc, union-empty-left, union-empty-right, union-insert, size-mono, size-remove, size-difference, size-union}
 use Rattle.switch.specs.Columns.{toward, FirstByNumber, bare}
 use Rattle.switch.specs.Looked.{Looked}
 use Rattle.switch.specs.Support.{ranksBefore, taken, tieOrder}
@@ -40,20 +40,10 @@ module _ {before : ℕ → ℕ → Bool} (c a : ℕ) (part : Subset a c) (front 
   past-chosen {k} {g} h =
       record {
         inside = λ u. omega (arith, h .inside u, part u, bit-union a g u, bit-difference c a u);
-        counted = sum;
+        counted = omega (arith, size-union a g (λ u. omega (arith, h .inside u, bit-difference c a u, bit-le a u, bit-le c u)), h .counted);
         ahead = λ v w p q r. go v w p q r (bit-cases a v);
       }
     where
-      apart : (u : ℕ) → bit (difference (union a g) a) u ≡ bit g u
-      apart u = omega (arith, bit-difference (union a g) a u, bit-union a g u, h .inside u, bit-difference c a u, bit-le g u, bit-le a u, bit-le c u)
-
-      together : (u : ℕ) → bit (intersection (union a g) a) u ≡ bit a u
-      together u = omega (arith, bit-intersection (union a g) a u, bit-union a g u)
-
-      sum : size (union a g) ≡ size a + k
-      sum =
-          omega (arith, size-split (union a g) a, ap size (set-ext (intersection (union a g) a) a together), ap size (set-ext (difference (union a g) a) g apart), h .counted)
-
       go : (v w : ℕ) → bit (union a g) v ≡ 1 → bit c w ≡ 1 → bit (union a g) w ≡ 0 → (bit a v ≡ 0) ⊎ (bit a v ≡ 1) → before v w ≡ true
       go v w p q r (inr e) = front v w e q (omega (arith, bit-union a g w))
       go v w p q r (inl e) =
@@ -77,15 +67,12 @@ module _ {before : ℕ → ℕ → Bool} (o : Ordered before) (c a : ℕ) (part 
   taken-front k h =
       chosen-unique o (taken-chosen o k c (omega (arith, size-mono a c part))) (front-chosen c a part front (taken-chosen o k a h))
 
-  size-rest : size c ≡ size a + size (difference c a)
-  size-rest = omega (arith, size-split c a, ap size (set-ext (intersection c a) a (λ u. omega (arith, bit-intersection c a u, part u))))
-
   pub taken-past : (k : ℕ) → size a ≤ k → k ≤ size c → taken before k c ≡ union a (taken before (k - size a) (difference c a))
   taken-past k h l =
       let sum : size a + (k - size a) ≡ k = omega arith in
       chosen-unique o (taken-chosen o k c l)
       (subst (λ (m : ℕ). Chosen before m c (union a (taken before (k - size a) (difference c a)))) sum
-      (past-chosen c a part front (taken-chosen o (k - size a) (difference c a) (omega (arith, size-rest)))))
+      (past-chosen c a part front (taken-chosen o (k - size a) (difference c a) (omega (arith, size-difference c a part)))))
 
 pub taken-same : {before after : ℕ → ℕ → Bool} → Ordered before → Ordered after → (k c : ℕ) → k ≤ size c
     → ((v w : ℕ) → bit c v ≡ 1 → bit c w ≡ 1 → before v w ≡ after v w) → taken before k c ≡ taken after k c
@@ -222,7 +209,7 @@ module _ (n i : ℕ) (s : Limits) (ss : List Limits) (h : i + length (s ∷ ss) 
 
       room : k - size (firstGroup last (s .lower) (s .upper) rest) ≤ size (others last)
       unfolding others
-      room = omega (arith, size-rest ranked rest (firstGroup last (s .lower) (s .upper) rest) (first-part last) (first-front last))
+      room = omega (arith, size-difference rest (firstGroup last (s .lower) (s .upper) rest) (first-part last))
 
       -- the first group is, and the others are among those left open
       pub taken-far : k - size (firstGroup last (s .lower) (s .upper) rest) ≤ size (undecided (s .lower) (s .upper) rest)
@@ -238,7 +225,7 @@ module _ (n i : ℕ) (s : Limits) (ss : List Limits) (h : i + length (s ∷ ss) 
       end-room : size (undecided (s .lower) (s .upper) rest) ≤ k - size (firstGroup last (s .lower) (s .upper) rest)
           → k - size (firstGroup last (s .lower) (s .upper) rest) - size (undecided (s .lower) (s .upper) rest) ≤ size (endGroup last (s .lower) (s .upper) rest)
       unfolding far
-      end-room p = omega (arith, room, size-rest ranked (others last) far (far-part last) (far-front last), ap size (end-is last))
+      end-room p = omega (arith, room, size-difference (others last) far (far-part last), ap size (end-is last))
 
       -- the first group and those left open are, and the others are in the last group
       pub taken-end : size (undecided (s .lower) (s .upper) rest) ≤ k - size (firstGroup last (s .lower) (s .upper) rest)
@@ -270,29 +257,13 @@ first-by-number true c u f = record { member = f .has; least = λ v b. go v b (d
 pub first-has : (last : Bool) (c u : ℕ) → FirstByNumber last c u → bit c u ≡ 1
 first-has last c u f = first-by-number last c u f .member
 
-union-insert : (a b u : ℕ) → union (insert a u) b ≡ union a (insert b u)
-unfolding insert
-union-insert a b u =
-    set-ext (union (union a (2 ^ u)) b) (union a (union b (2 ^ u)))
-    (λ v. omega (arith, bit-union (union a (2 ^ u)) b v, bit-union a (2 ^ u) v, bit-union a (union b (2 ^ u)) v, bit-union b (2 ^ u) v))
-
 -- what has been found with what is still to be found is all
 pub record Found (before : ℕ → ℕ → Bool) (c k found rest left : ℕ) : Type 0 where
   pub enough : left ≤ size rest
   pub all : union found (taken before left rest) ≡ taken before k c
 
-pub union-assoc : (a b c : ℕ) → union (union a b) c ≡ union a (union b c)
-union-assoc a b c =
-    set-ext (union (union a b) c) (union a (union b c)) (λ u. omega (arith, bit-union (union a b) c u, bit-union a b u, bit-union a (union b c) u, bit-union b c u))
-
-pub union-empty : (a : ℕ) → union 0 a ≡ a
-union-empty a = set-ext (union 0 a) a (λ u. omega (arith, bit-union 0 a u, bit-empty u))
-
-pub no-units : (a : ℕ) → union a 0 ≡ a
-no-units a = set-ext (union a 0) a (λ u. omega (arith, bit-union a 0 u, bit-empty u))
-
 pub found-none : (before : ℕ → ℕ → Bool) (c k : ℕ) → k ≤ size c → Found before c k 0 c k
-found-none before c k h = record { enough = h; all = union-empty (taken before k c) }
+found-none before c k h = record { enough = h; all = union-empty-left (taken before k c) }
 
 pub found-one : (last : Bool) (c k found rest left u : ℕ) → 0 < left → FirstByNumber last rest u → Found (toward last tieOrder) c k found rest left
     → Found (toward last tieOrder) c k (insert found u) (remove rest u) (left - 1)
@@ -321,7 +292,7 @@ found-one last c k found rest left u pos f g =
 pub found-all : (before : ℕ → ℕ → Bool) (c k found rest left : ℕ) → left ≡ 0 → Found before c k found rest left → found ≡ taken before k c
 unfolding taken
 found-all before c k found rest left e g =
-    sym (no-units found)
+    sym (union-empty-right found)
     ∙ ap (λ (m : ℕ). union found (taken before m rest)) (sym e) ∙ g .all
 
 -- ---- a look at one step
@@ -329,7 +300,7 @@ found-all before c k found rest left e g =
 module _ (last : Bool) (lower upper rest left : ℕ) (m : left ≤ size rest) where
   nothing-left : (before : ℕ → ℕ → Bool) (found : ℕ) → union found (taken before 0 0) ≡ found
   unfolding taken
-  nothing-left before found = no-units found
+  nothing-left before found = union-empty-right found
 
   pub looked-first : left ≤ size (firstGroup last lower upper rest)
       → Looked last lower upper rest left (record { found = taken (toward last tieOrder) left (firstGroup last lower upper rest); rest = 0; left = 0 })

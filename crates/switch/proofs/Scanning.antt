@@ -2,18 +2,19 @@
 use mathlib.Core.Path.{_≡_, refl, sym, ap, _∙_}
 use mathlib.Core.Bool.{Bool, true, false}
 use mathlib.Core.List.{List, [], _∷_}
-use Prim.Native.Nat.{ℕ, zero, suc, _+_, _-_, _≤_, _<_}
+use Prim.Native.Nat.{ℕ, zero, suc, _+_, _≤_, _<_}
 use native.Mathlib.Numerals.{add-one}
 use native.Mathlib.Omega.{arith}
 use borrow.Author.Tests.{le-ltb, eq-eqb}
 use lib.ListN.{length, length-drop, drop, getD, drop-of-length-le}
 use Rattle.units.specs.Sets.{union, size}
+use Rattle.units.proofs.Sets.{union-assoc, union-empty-left, union-empty-right}
 use Rattle.switch.specs.declared.pick.Pick.{Pick}
 use Rattle.switch.specs.Columns.{toward, bare, setsOf, rankingAt}
 use Rattle.switch.specs.Looked.{Looked}
 use Rattle.switch.specs.Support.{nextRequired, nextForbidden, requiredFirst, ranksBefore, taken, tieOrder}
 use Rattle.switch.proofs.Orders.{ltb-ordered}
-use Rattle.switch.proofs.Picking.{toward-ordered, taken-same, union-assoc, union-empty, no-units}
+use Rattle.switch.proofs.Picking.{toward-ordered, taken-same}
 use Rattle.switch.proofs.Ranks.{ranks-ordered}
 
 -- ---- columns
@@ -54,12 +55,12 @@ pub record Scanned (lower upper : List ℕ) (from c k : ℕ) (last : Bool) (foun
 
 module _ (lower upper : List ℕ) (from c k : ℕ) (last : Bool) where
   pub scan-begun : from ≤ length lower → k ≤ size c → Scanned lower upper from c k last 0 c k from
-  scan-begun h l = record { enough = l; within = h; all = union-empty (taken (toward last (rankingAt lower upper from)) k c) }
+  scan-begun h l = record { enough = l; within = h; all = union-empty-left (taken (toward last (rankingAt lower upper from)) k c) }
 
   module _ {found rest left j : ℕ} (same-long : length lower ≡ length upper) (g : Scanned lower upper from c k last found rest left j) where
     pub scan-found : left ≡ 0 → found ≡ taken (toward last (rankingAt lower upper from)) k c
     unfolding taken
-    scan-found e = sym (no-units found) ∙ ap (λ (m : ℕ). union found (taken (toward last (rankingAt lower upper j)) m rest)) (sym e) ∙ g .all
+    scan-found e = sym (union-empty-right found) ∙ ap (λ (m : ℕ). union found (taken (toward last (rankingAt lower upper j)) m rest)) (sym e) ∙ g .all
 
     pub scan-ended : j ≡ length lower → union found (taken (toward last tieOrder) left rest) ≡ taken (toward last (rankingAt lower upper from)) k c
     scan-ended e =

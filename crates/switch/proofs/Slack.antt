@@ -11,15 +11,13 @@ use native.Mathlib.Omega.{arith}
 use lib.ListN.{length, getD, set}
 use lib.Seq.{getD-set-same}
 use Rattle.units.specs.Sets.{bit, intersection, difference, Subset, insert, remove, size}
-use Rattle.units.proofs.Sets.{bit-le, bit-cases, bit-intersection, bit-difference, bit-insert, bit-insert-other, bit-remove, bit-remove-other, size-split, size-mono, size-insert, size-remove, unit-outside}
+use Rattle.units.proofs.Sets.{bit-le, bit-cases, bit-intersection, bit-difference, bit-insert, bit-insert-other, bit-remove, insert-remove, insert-subset, subset-insert, remove-subset, subset-remove, size-difference, size-split, size-mono, size-insert, size-remove, other-unit}
 use Rattle.switch.specs.Switch.{Limits, Allows, FeasiblePlan, switches, total, Satisfiable}
 use Rattle.switch.specs.Support.{findSupport}
 use Rattle.switch.proofs.AllPlans.{Shows, SomePlan, plan-length, allows-at}
 use Rattle.switch.proofs.Exchange.{allows-exchange}
-use Rattle.switch.proofs.Forced.{remove-subset, subset-remove}
 use Rattle.switch.proofs.Greedy.{plan-greedy}
 use Rattle.switch.proofs.Optimal.{optimal}
-use Rattle.switch.proofs.Totals.{insert-remove, insert-subset, subset-insert}
 
 -- ---- a plan with another set in one step
 
@@ -68,16 +66,9 @@ close-over r x y p q m n = omega (arith, one x y p q n, one y x q p m)
     one x y p q n =
         omega (
           arith,
-          size-split y r,
-          size-mono r (intersection y r) (λ u. omega (arith, bit-intersection y r u, q u)),
+          size-difference y r q,
           size-mono (difference y x) (difference y r) (λ u. omega (arith, bit-difference y x u, bit-difference y r u, p u)),
         )
-
--- if a has a unit that b lacks, and no more units, then b has one that a lacks
-other-unit : (a b u : ℕ) → bit a u ≡ 1 → bit b u ≡ 0 → size a ≤ size b → (v : ℕ) × ((bit b v ≡ 1) × (bit a v ≡ 0))
-other-unit a b u au bu h =
-    let out = unit-outside b (remove a u) (omega (arith, size-remove a u au)) in
-    (out .0, (out .1 .0, sym (bit-remove-other a u (out .0) (λ e. omega (arith, out .1 .0, ap (bit b) e))) ∙ out .1 .1))
 
 module _ (s : Limits) (p x : ℕ) (a : Allows s p) (b : Allows s x) where
   -- the step allows y, and between p and y there are two switches at the most

@@ -6,21 +6,16 @@ use native.Mathlib.Omega.{arith}
 use Rattle.units.specs.Limits.{Feasible, hasFeasible}
 use Rattle.units.specs.Sets.{union, intersection, difference, size}
 use Rattle.units.proofs.Limits.{some-feasible}
-use Rattle.units.proofs.Sets.{bit-difference, bit-empty, set-ext, size-mono}
+use Rattle.units.proofs.Sets.{bit-difference, difference-empty, union-empty-right, size-mono, size-difference, size-difference-le}
 use Rattle.switch.specs.Columns.{toward, limits}
 use Rattle.switch.specs.Support.{taken, supportSet}
 use Rattle.switch.proofs.Chosen.{taken-chosen}
-use Rattle.switch.proofs.Greedy.{size-rest, size-without}
 use Rattle.switch.proofs.Orders.{Ordered, mirror-ordered}
-use Rattle.switch.proofs.Picking.{no-units}
 
 -- none leave, none join
 none-taken : (before : ℕ → ℕ → Bool) (k c : ℕ) → k ≡ 0 → taken before k c ≡ 0
 unfolding taken
 none-taken before k c e = ap (λ (m : ℕ). taken before m c) e
-
-without-none : (a : ℕ) → difference a 0 ≡ a
-without-none a = set-ext (difference a 0) a (λ u. omega (arith, bit-difference a 0 u, bit-empty u))
 
 -- what was on and may stay, and what must be on
 abbrev pub begun : ℕ → ℕ → ℕ → ℕ
@@ -34,18 +29,18 @@ module _ (ranks : ℕ → ℕ → Bool) (o : Ordered ranks) (lower upper least g
   pub leave-room : size (begun lower upper before) - greatest ≤ size (difference (begun lower upper before) lower)
   leave-room =
       let w = witness in
-      omega (arith, size-rest lower (begun lower upper before), size-mono lower (w .0) (w .1 .includes), w .1 .few)
+      omega (arith, size-difference-le (begun lower upper before) lower, size-mono lower (w .0) (w .1 .includes), w .1 .few)
 
   pub join-room : least - size (begun lower upper before) ≤ size (difference upper (begun lower upper before))
   join-room =
       let w = witness in
-      omega (arith, size-rest (begun lower upper before) upper, size-mono (w .0) upper (w .1 .within), w .1 .enough)
+      omega (arith, size-difference-le upper (begun lower upper before), size-mono (w .0) upper (w .1 .within), w .1 .enough)
 
   pub support-leave : greatest < size (begun lower upper before)
       → difference (begun lower upper before) (taken (toward true ranks) (size (begun lower upper before) - greatest) (difference (begun lower upper before) lower))
       ≡ supportSet ranks (limits lower upper least greatest) before
   unfolding supportSet
-  support-leave h = sym (ap (union kept) (none-taken ranks (least - size kept) (difference upper kept) enough) ∙ no-units kept)
+  support-leave h = sym (ap (union kept) (none-taken ranks (least - size kept) (difference upper kept) enough) ∙ union-empty-right kept)
     where
       leaving : ℕ
       leaving = taken (toward true ranks) (size (begun lower upper before) - greatest) (difference (begun lower upper before) lower)
@@ -57,7 +52,7 @@ module _ (ranks : ℕ → ℕ → Bool) (o : Ordered ranks) (lower upper least g
       enough =
           let w = witness in
           let c = taken-chosen (mirror-ordered o) (size (begun lower upper before) - greatest) (difference (begun lower upper before) lower) leave-room in
-          omega (arith, size-without leaving (begun lower upper before) (λ u. omega (arith, c .inside u, bit-difference (begun lower upper before) lower u)), c .counted, w .1 .enough, w .1 .few)
+          omega (arith, size-difference (begun lower upper before) leaving (λ u. omega (arith, c .inside u, bit-difference (begun lower upper before) lower u)), c .counted, w .1 .enough, w .1 .few)
 
   pub support-join : size (begun lower upper before) ≤ greatest
       → union (begun lower upper before) (taken ranks (least - size (begun lower upper before)) (difference upper (begun lower upper before)))
@@ -65,10 +60,10 @@ module _ (ranks : ℕ → ℕ → Bool) (o : Ordered ranks) (lower upper least g
   unfolding supportSet
   support-join h =
       ap (λ (x : ℕ). union x (taken ranks (least - size x) (difference upper x)))
-      (sym (ap (difference (begun lower upper before)) (none-taken (toward true ranks) (size (begun lower upper before) - greatest) (difference (begun lower upper before) lower) (omega arith)) ∙ without-none (begun lower upper before)))
+      (sym (ap (difference (begun lower upper before)) (none-taken (toward true ranks) (size (begun lower upper before) - greatest) (difference (begun lower upper before) lower) (omega arith)) ∙ difference-empty (begun lower upper before)))
 
   pub support-stay : size (begun lower upper before) ≤ greatest → least ≤ size (begun lower upper before)
       → begun lower upper before ≡ supportSet ranks (limits lower upper least greatest) before
   support-stay h l =
-      sym (ap (union (begun lower upper before)) (none-taken ranks (least - size (begun lower upper before)) (difference upper (begun lower upper before)) (omega arith)) ∙ no-units (begun lower upper before))
+      sym (ap (union (begun lower upper before)) (none-taken ranks (least - size (begun lower upper before)) (difference upper (begun lower upper before)) (omega arith)) ∙ union-empty-right (begun lower upper before))
       ∙ support-join h

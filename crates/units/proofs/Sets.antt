@@ -1,8 +1,9 @@
 -- Laws on sets of units. A set is known by its units (`set-ext`), each operation by the units of its result (`bit-union` and so on),
 -- and a size by what one unit more or less does to it and by the list of the units (`size-insert`, `size-units`).
+-- Sets that differ in one unit are compared at that unit and at the others (`by-unit`), and their sizes by what they are at it (`size-except`).
 -- On digits the intersection is `min`, the union `max` and the difference `-`, so that omega proves each identity of sets unit by unit.
 use mathlib.Core.Path.{_≡_, refl, sym, ap, ap₂, _∙_, subst}
-use mathlib.Core.Logic.{_⊎_, inl, inr, _↔_}
+use mathlib.Core.Logic.{_⊎_, inl, inr, ⊎-elim, _↔_}
 use mathlib.Core.Bool.{true, false, cond}
 use mathlib.Core.List.{[], _∷_, _++_, List·Memᴰ, List·Memᴰ·head, List·Memᴰ·not-nil, List·Memᴰ·append-cases, List·Memᴰ·eq-of-singleton, Memᴰ·append-left, Memᴰ·append-right}
 use Prim.Native.Nat.{ℕ, zero, suc, _+_, _-_, _*_, _/_, _%_, _^_, _≤_, _<_, min, max}
@@ -106,6 +107,21 @@ set-ext a =
         (λ m ih h. joined 0 m (ih (λ u. sym (bit-suc 0 u) ∙ h (suc u) ∙ bit-suc m u)) (sym (bit-zero 0) ∙ h 0 ∙ bit-zero m))
         b
 
+-- ---- unions and differences
+
+pub union-assoc : (a b c : ℕ) → union (union a b) c ≡ union a (union b c)
+union-assoc a b c =
+    set-ext (union (union a b) c) (union a (union b c)) (λ u. omega (arith, bit-union (union a b) c u, bit-union a b u, bit-union a (union b c) u, bit-union b c u))
+
+pub union-empty-left : (a : ℕ) → union 0 a ≡ a
+union-empty-left a = set-ext (union 0 a) a (λ u. omega (arith, bit-union 0 a u, bit-empty u))
+
+pub union-empty-right : (a : ℕ) → union a 0 ≡ a
+union-empty-right a = set-ext (union a 0) a (λ u. omega (arith, bit-union a 0 u, bit-empty u))
+
+pub difference-empty : (a : ℕ) → difference a 0 ≡ a
+difference-empty a = set-ext (difference a 0) a (λ u. omega (arith, bit-difference a 0 u, bit-empty u))
+
 -- ---- subsets
 
 pub subset-holds : (a b : ℕ) → isSubset a b ≡ true → Subset a b
@@ -160,15 +176,57 @@ contains-empty u = ap (λ (x : ℕ). eqb x 1) (bit-empty u)
 
 pub outside : (s u : ℕ) → contains s u ≡ false → bit s u ≡ 0
 unfolding contains
-outside s u h = go (bit-cases s u)
-  where
-    go : (bit s u ≡ 0) ⊎ (bit s u ≡ 1) → bit s u ≡ 0
-    go (inl e) = e
-    go (inr e) = absurd (eqb-false (bit s u) 1 h e)
+outside s u h = ⊎-elim (λ e. e) (λ e. absurd (eqb-false (bit s u) 1 h e)) (bit-cases s u)
 
 pub remove-le : (s v : ℕ) → remove s v ≤ s
 unfolding remove difference
 remove-le s v = omega arith
+
+-- ---- one unit more or less
+
+-- what holds of unit v and of every other unit holds of all
+pub by-unit : (v : ℕ) (F : ℕ → Type 0) → F v → ((u : ℕ) → (u ≡ v → ⊥) → F u) → (u : ℕ) → F u
+by-unit v F one others u = go (ℕ-discrete u v)
+  where
+    go : Dec (u ≡ v) → F u
+    go (yes e) = subst F (sym e) one
+    go (no n) = others u n
+
+pub subset-insert : (x v : ℕ) → Subset x (insert x v)
+unfolding insert
+subset-insert x v u = omega (arith, bit-union x (2 ^ v) u)
+
+pub insert-subset : (x y v : ℕ) → Subset x y → bit y v ≡ 1 → Subset (insert x v) y
+insert-subset x y v h e =
+    by-unit v (λ u. bit (insert x v) u ≤ bit y u) (omega (arith, bit-le (insert x v) v)) (λ u n. omega (arith, bit-insert-other x v u n, h u))
+
+-- y is within x, if it is within x with v and lacks v
+pub subset-without : (x y v : ℕ) → Subset y (insert x v) → bit y v ≡ 0 → Subset y x
+subset-without x y v h e = by-unit v (λ u. bit y u ≤ bit x u) (omega arith) (λ u n. omega (arith, bit-insert-other x v u n, h u))
+
+pub remove-subset : (y v : ℕ) → Subset (remove y v) y
+unfolding remove
+remove-subset y v u = omega (arith, bit-difference y (2 ^ v) u)
+
+pub subset-remove : (x y v : ℕ) → Subset x y → bit x v ≡ 0 → Subset x (remove y v)
+subset-remove x y v h e = by-unit v (λ u. bit x u ≤ bit (remove y v) u) (omega arith) (λ u n. omega (arith, bit-remove-other y v u n, h u))
+
+pub insert-remove : (x v : ℕ) → bit x v ≡ 1 → insert (remove x v) v ≡ x
+insert-remove x v e =
+    set-ext (insert (remove x v) v) x
+    (by-unit v (λ u. bit (insert (remove x v) v) u ≡ bit x u) (omega (arith, bit-insert (remove x v) v))
+    (λ u n. bit-insert-other (remove x v) v u n ∙ bit-remove-other x v u n))
+
+-- v taken out of a set that lacks it
+remove-none : (x v : ℕ) → bit x v ≡ 0 → remove x v ≡ x
+remove-none x v e =
+    set-ext (remove x v) x (by-unit v (λ u. bit (remove x v) u ≡ bit x u) (omega (arith, bit-remove x v)) (bit-remove-other x v))
+
+pub union-insert : (a b u : ℕ) → union (insert a u) b ≡ union a (insert b u)
+unfolding insert
+union-insert a b u =
+    set-ext (union (union a (2 ^ u)) b) (union a (union b (2 ^ u)))
+    (λ v. omega (arith, bit-union (union a (2 ^ u)) b v, bit-union a (2 ^ u) v, bit-union a (union b (2 ^ u)) v, bit-union b (2 ^ u) v))
 
 -- ---- sizes
 
@@ -202,6 +260,28 @@ size-split a =
         size-step (difference n b) ∙ ap₂ (λ x y. x + size y) (difference-odd n b) (difference-half n b) in
         omega (arith, size-step n)
 
+-- without a part of it, a set has just so many units less
+pub size-difference : (a b : ℕ) → Subset b a → size a ≡ size (difference a b) + size b
+size-difference a b h =
+    omega (arith, size-split a b, ap size (set-ext (intersection a b) b (λ u. omega (arith, bit-intersection a b u, h u))))
+
+-- a larger set of a chain has as many units at least
+pub size-mono : (a b : ℕ) → Subset a b → size a ≤ size b
+size-mono a b h = omega (arith, size-difference b a h)
+
+-- without the units of any set, it has at the most so many less
+pub size-difference-le : (a b : ℕ) → size a ≤ size (difference a b) + size b
+size-difference-le a b = omega (arith, size-split a b, size-mono (intersection a b) b (λ u. omega (arith, bit-intersection a b u)))
+
+-- sets without a common unit have together as many as both
+pub size-union : (a b : ℕ) → ((u : ℕ) → bit a u + bit b u ≤ 1) → size (union a b) ≡ size a + size b
+size-union a b h =
+    omega (
+      arith,
+      size-difference (union a b) a (λ u. omega (arith, bit-union a b u)),
+      ap size (set-ext (difference (union a b) a) b (λ u. omega (arith, bit-difference (union a b) a u, bit-union a b u, h u))),
+    )
+
 pub size-single : (v : ℕ) → size (2 ^ v) ≡ 1
 size-single zero = size-step 1 ∙ omega (arith, size-empty)
 size-single (suc v) = size-step (2 ^ suc v) ∙ ap (λ (x : ℕ). 2 ^ suc v % 2 + size x) (halved v) ∙ omega (arith, size-single v, pow-suc 2 v)
@@ -209,25 +289,30 @@ size-single (suc v) = size-step (2 ^ suc v) ∙ ap (λ (x : ℕ). 2 ^ suc v % 2 
 -- a unit less is one less
 pub size-remove : (s v : ℕ) → bit s v ≡ 1 → size s ≡ size (remove s v) + 1
 unfolding remove
-size-remove s v h = omega (arith, size-split s (2 ^ v), size-single v, ap size (set-ext (intersection s (2 ^ v)) (2 ^ v) alone))
+size-remove s v h = omega (arith, size-difference s (2 ^ v) inside, size-single v)
   where
-    alone : (u : ℕ) → bit (intersection s (2 ^ v)) u ≡ bit (2 ^ v) u
-    alone u = go (ℕ-discrete u v)
-      where
-        go : Dec (u ≡ v) → bit (intersection s (2 ^ v)) u ≡ bit (2 ^ v) u
-        go (yes e) = omega (arith, bit-intersection s (2 ^ v) u, subst (λ (w : ℕ). bit s w ≡ 1) (sym e) h, bit-le (2 ^ v) u)
-        go (no n) = omega (arith, bit-intersection s (2 ^ v) u, bit-single-other v u n)
+    inside : Subset (2 ^ v) s
+    inside = by-unit v (λ u. bit (2 ^ v) u ≤ bit s u) (omega (arith, bit-le (2 ^ v) v)) (λ u n. omega (arith, bit-single-other v u n))
+
+-- the sizes of two sets that differ in unit v alone
+pub size-except : (a b v : ℕ) → ((u : ℕ) → (u ≡ v → ⊥) → bit a u ≡ bit b u) → size a + bit b v ≡ size b + bit a v
+size-except a b v same = omega (arith, size-at a (bit-cases a v), size-at b (bit-cases b v), ap size (set-ext (remove a v) (remove b v) alike))
+  where
+    size-at : (x : ℕ) → (bit x v ≡ 0) ⊎ (bit x v ≡ 1) → size x ≡ size (remove x v) + bit x v
+    size-at x (inl e) = omega (arith, ap size (remove-none x v e))
+    size-at x (inr e) = omega (arith, size-remove x v e)
+
+    alike : (u : ℕ) → bit (remove a v) u ≡ bit (remove b v) u
+    alike =
+        by-unit v (λ u. bit (remove a v) u ≡ bit (remove b v) u) (omega (arith, bit-remove a v, bit-remove b v))
+        (λ u n. omega (arith, bit-remove-other a v u n, bit-remove-other b v u n, same u n))
 
 -- a unit more is one more
 pub size-insert : (s v : ℕ) → bit s v ≡ 0 → size (insert s v) ≡ size s + 1
-size-insert s v h = size-remove (insert s v) v (bit-insert s v) ∙ ap (λ (x : ℕ). size x + 1) (set-ext (remove (insert s v) v) s same)
-  where
-    same : (u : ℕ) → bit (remove (insert s v) v) u ≡ bit s u
-    same u = go (ℕ-discrete u v)
-      where
-        go : Dec (u ≡ v) → bit (remove (insert s v) v) u ≡ bit s u
-        go (yes e) = subst (λ (w : ℕ). bit (remove (insert s v) v) w ≡ bit s w) (sym e) (bit-remove (insert s v) v ∙ sym h)
-        go (no n) = bit-remove-other (insert s v) v u n ∙ bit-insert-other s v u n
+size-insert s v h = omega (arith, size-except (insert s v) s v (bit-insert-other s v), bit-insert s v)
+
+pub bit-le-size : (s u : ℕ) → bit s u ≤ size s
+bit-le-size s u = ⊎-elim (λ e. omega arith) (λ e. omega (arith, size-remove s u e)) (bit-cases s u)
 
 -- units below k are k at the most
 pub size-below : (k s : ℕ) → s < 2 ^ k → size s ≤ k
@@ -239,6 +324,8 @@ pub size-pos : (s : ℕ) → 0 < size s → 0 < s
 size-pos zero h = absurd (omega (arith, size-empty))
 size-pos (suc s) h = omega arith
 
+-- ---- a unit that is there
+
 -- a set that is not empty has a unit
 pub some-unit : (s : ℕ) → 0 < s → (u : ℕ) × (bit s u ≡ 1)
 some-unit s =
@@ -248,21 +335,28 @@ some-unit s =
     step n ih h zero e = let r = ih (omega arith) in (suc (r .0), bit-suc n (r .0) ∙ r .1)
     step n ih h (suc x) e = (0, bit-zero n ∙ omega arith)
 
--- a larger set of a chain has as many units at least
-pub size-mono : (a b : ℕ) → Subset a b → size a ≤ size b
-size-mono a b h = omega (arith, size-split b a, ap size (set-ext (intersection b a) a (λ u. omega (arith, bit-intersection b a u, h u))))
+-- a unit of a that b lacks
+abbrev pub Missing : ℕ → ℕ → Type 0
+Missing a b = (u : ℕ) × ((bit a u ≡ 1) × (bit b u ≡ 0))
+
+pub subset-or-missing : (a b : ℕ) → Subset a b ⊎ Missing a b
+subset-or-missing a b = go (difference a b) refl
+  where
+    go : (d : ℕ) → difference a b ≡ d → Subset a b ⊎ Missing a b
+    go zero e = inl (λ u. omega (arith, bit-difference a b u, ap (λ (d : ℕ). bit d u) e, bit-empty u))
+    go (suc d) e =
+        let r = some-unit (difference a b) (omega arith) in
+        inr (r .0, omega (arith, bit-difference a b (r .0), bit-le a (r .0)))
 
 -- a set with more units than another has one that the other lacks
-pub unit-outside : (a b : ℕ) → size b < size a → (u : ℕ) × ((bit a u ≡ 1) × (bit b u ≡ 0))
-unit-outside a b h = let r = some-unit (difference a b) (filled (difference a b) refl) in
-    (r .0, (omega (arith, bit-difference a b (r .0), r .1, bit-le a (r .0)), omega (arith, bit-difference a b (r .0), r .1, bit-le a (r .0))))
-  where
-    inside : Subset (intersection a b) b
-    inside u = omega (arith, bit-intersection a b u)
+pub unit-outside : (a b : ℕ) → size b < size a → Missing a b
+unit-outside a b h = ⊎-elim (λ s. absurd (omega (arith, size-mono a b s))) (λ m. m) (subset-or-missing a b)
 
-    filled : (x : ℕ) → difference a b ≡ x → 0 < x
-    filled zero e = absurd (omega (arith, h, size-split a b, size-mono (intersection a b) b inside, ap size e, size-empty))
-    filled (suc x) e = omega arith
+-- if a has a unit that b lacks, and no more units, then b has one that a lacks
+pub other-unit : (a b u : ℕ) → bit a u ≡ 1 → bit b u ≡ 0 → size a ≤ size b → Missing b a
+other-unit a b u au bu h =
+    let out = unit-outside b (remove a u) (omega (arith, size-remove a u au)) in
+    (out .0, (out .1 .0, sym (bit-remove-other a u (out .0) (λ e. omega (arith, out .1 .0, ap (bit b) e))) ∙ out .1 .1))
 
 -- ---- sets of units below k
 
@@ -275,9 +369,27 @@ unit-below zero s u h b = absurd (omega (arith, b, bit-empty u, ap (λ (x : ℕ)
 unit-below (suc k) s zero h b = omega arith
 unit-below (suc k) s (suc u) h b = omega (arith, unit-below k (s / 2) u (omega (arith, h, pow-suc 2 k)) (sym (bit-suc s u) ∙ b))
 
+pub bit-above : (k s u : ℕ) → s < 2 ^ k → k ≤ u → bit s u ≡ 0
+bit-above k s u h l = ⊎-elim (λ e. e) (λ e. absurd (omega (arith, unit-below k s u h e))) (bit-cases s u)
+
 pub below-pow : (k s : ℕ) → ((u : ℕ) → k ≤ u → bit s u ≡ 0) → s < 2 ^ k
 below-pow zero s h = omega (arith, set-ext s 0 (λ u. h u (omega arith) ∙ sym (bit-empty u)))
 below-pow (suc k) s h = omega (arith, below-pow k (s / 2) (λ u l. sym (bit-suc s u) ∙ h (suc u) (omega arith)), pow-suc 2 k)
+
+pub subset-below : (k a b : ℕ) → Subset a b → b < 2 ^ k → a < 2 ^ k
+subset-below k a b h l = below-pow k a (λ u m. omega (arith, h u, bit-above k b u l m))
+
+-- a set has no unit from its own number up
+pub below-own-power : (s : ℕ) → s < 2 ^ s
+below-own-power zero = omega arith
+below-own-power (suc s) = omega (arith, below-own-power s, pow-suc 2 s)
+
+-- the set 2 ^ k - 1 has all units below k
+pub bit-full : (k u : ℕ) → u < k → bit (2 ^ k - 1) u ≡ 1
+bit-full zero u l = absurd (omega arith)
+bit-full (suc k) zero l = omega (arith, bit-zero (2 ^ suc k - 1), pow-suc 2 k, pow-pos k)
+bit-full (suc k) (suc u) l =
+    bit-suc (2 ^ suc k - 1) u ∙ ap (λ (x : ℕ). bit x u) (omega (arith, pow-suc 2 k, pow-pos k)) ∙ bit-full k u (omega arith)
 
 -- the test that a set has a unit from d up holds exactly if there is one
 pub some-unit-from : (s d : ℕ) → hasUnitFrom s d ≡ true ↔ ((u : ℕ) × ((d ≤ u) × (bit s u ≡ 1)))

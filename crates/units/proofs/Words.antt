@@ -12,7 +12,7 @@ use lib.Count.{trailingZeros, leadingZeros, leading-top, under}
 use lib.Dec.{eqb, leb, lit<}
 use lib.Pow.{pow-pos, shl-exact, split}
 use Rattle.units.specs.Sets.{bit, intersection, difference, contains, Lowest, Highest}
-use Rattle.units.proofs.Sets.{bit-zero, bit-suc, unit-below, below-pow, bit-cases, bit-intersection, bit-single, bit-single-other, bit-empty, set-ext}
+use Rattle.units.proofs.Sets.{bit-zero, bit-suc, bit-above, below-pow, bit-cases, bit-intersection, bit-single, bit-single-other, bit-empty, by-unit, set-ext}
 
 -- a one shifted by a unit's number is that unit's weight
 pub one-shifted : (u : ℕ) → u < 64 → 1 * 2 ^ u % 2 ^ 64 ≡ 2 ^ u
@@ -85,12 +85,7 @@ top-bit a j l u = go (bit-cases a j)
     go (inl e) = absurd (omega (arith, l, below-pow j a none))
       where
         none : (v : ℕ) → j ≤ v → bit a v ≡ 0
-        none v h = at (ℕ-discrete v j) (bit-cases a v)
-          where
-            at : Dec (v ≡ j) → (bit a v ≡ 0) ⊎ (bit a v ≡ 1) → bit a v ≡ 0
-            at d (inl z) = z
-            at (yes q) (inr o) = ap (bit a) q ∙ e
-            at (no n) (inr o) = absurd (omega (arith, unit-below (suc j) a v u o))
+        none = by-unit j (λ v. j ≤ v → bit a v ≡ 0) (λ h. e) (λ v n h. bit-above (suc j) a v u (omega arith))
 
 -- the zeros above the highest digit that is set, with the number of the highest unit and one, are all k digits
 pub leading-highest : (k a j : ℕ) → leadingZeros k a + suc j ≡ k → 0 < a → a < 2 ^ k → Highest a j
@@ -100,9 +95,5 @@ leading-highest k a j e p h =
     subst (Highest a) same
     (record {
       has = top-bit a (t .0) (t .2) (t .3);
-      first = λ v l. high v (bit-cases a v) (omega arith) (t .3);
+      first = λ v l. bit-above (suc (t .0)) a v (t .3) (omega arith);
     })
-  where
-    high : (v : ℕ) {j : ℕ} → (bit a v ≡ 0) ⊎ (bit a v ≡ 1) → j < v → a < 2 ^ suc j → bit a v ≡ 0
-    high v (inl z) l u = z
-    high v {j} (inr o) l u = absurd (omega (arith, unit-below (suc j) a v u o))

@@ -1,7 +1,7 @@
 -- Laws on the answer of `warm_verdict`, by its stages, and that it accepts a plan exactly if that meets the sheet.
 use mathlib.Core.Path.{_≡_, refl, sym, ap, _∙_}
 use mathlib.Core.Logic.{_↔_}
-use mathlib.Core.Bool.{Bool, true, false, cond, not, _&&_, false≢true}
+use mathlib.Core.Bool.{Bool, true, false, cond, not, _&&_, false≢true, and-eq-true-iff}
 use mathlib.Core.List.{List, [], _∷_}
 use Prim.Native.Nat.{ℕ, zero, suc, _≤_}
 use native.Mathlib.Omega.{arith}
@@ -43,10 +43,6 @@ module _ (s plan : List ℕ) where
 
 -- ---- what is accepted
 
-both-true : (a b : Bool) → (a && b) ≡ true ↔ ((a ≡ true) × (b ≡ true))
-both-true true b = (λ h. (refl, h), λ h. h .1)
-both-true false b = (λ h. absurd (false≢true h), λ h. h .0)
-
 -- the test of a plan holds exactly if it is feasible
 feasible-exactly : (ss : List Limits) (plan : List ℕ) → isFeasible ss plan ≡ true ↔ FeasiblePlan ss plan
 unfolding isFeasible
@@ -56,7 +52,7 @@ feasible-exactly (s ∷ ss) [] = (λ h. absurd (false≢true h), λ h. absurd h)
 feasible-exactly (s ∷ ss) (x ∷ xs) =
     let here = allows-exactly s x in
     let rest = feasible-exactly ss xs in
-    let both = both-true (allows s x) (isFeasible ss xs) in
+    let both = and-eq-true-iff (allows s x) (isFeasible ss xs) in
     (λ h. (here .0 (both .0 h .0), rest .0 (both .0 h .1)), λ h. both .1 (here .1 (h .0), rest .1 (h .1)))
 
 -- yes or no
@@ -72,7 +68,7 @@ accepts-digit s plan = go (isFeasible (limitsOn s) plan && leb (total (startOf s
 pub accepts-exactly : (s plan : List ℕ) → accepts s plan ≡ 1 ↔ Meets s plan
 unfolding accepts
 accepts-exactly s plan =
-    let both = both-true (isFeasible (limitsOn s) plan) (leb (total (startOf s) plan) (boundOf s)) in
+    let both = and-eq-true-iff (isFeasible (limitsOn s) plan) (leb (total (startOf s) plan) (boundOf s)) in
     let feasible = feasible-exactly (limitsOn s) plan in
     (λ h. let t = both .0 (one _ h) in (feasible .0 (t .0), leb-true _ _ (t .1)), λ m. ap chosen (both .1 (feasible .1 (m .0), le-leb _ _ (m .1))))
   where

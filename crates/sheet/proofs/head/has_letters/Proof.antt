@@ -1,12 +1,13 @@
 -- `sheet::head::has_letters` meets its contract: the first letter that differs decides.
 use mathlib.Core.Path.{sym, _∙_}
+use mathlib.Core.Bool.{and-true as last}
 use native.Mathlib.Omega.{arith}
 use borrow.Author.Needs.{needs}
 use borrow.Author.Tests.{eq-eqb, ne-eqb}
 use denote.Ref.{now}
 use lib.Dec.{eqb}
 use lib.ListN.{getD}
-use Rattle.sheet.proofs.Letters.{spelled, last}
+use Rattle.sheet.proofs.Letters.{spelled}
 use Rattle.sheet.proofs.head.has_letters.Statement.{statement}
 use Rattle.sheet.proofs.head.has_letters.Tie as tie
 
