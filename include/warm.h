@@ -1,8 +1,20 @@
 /*
  * warm.h: plans which units of a bench are on in each step of a test campaign.
  *
- * A campaign sheet is a block of at most 6,168 bytes that lists the steps of a campaign in a fixed order. docs/FORMAT.md describes it byte by
- * byte. No call needs a sheet that was checked before: any bytes of any length get a full reply or one refusal.
+ * A bench has up to 64 units, numbered from 0. A set of units is a 64-bit number in which unit u has weight 2^u. A campaign is a list of steps in a
+ * fixed order. A step says which units must be on, which may be on, and how many are on at least and at most. Switching a unit on costs a warm-up.
+ *
+ * A campaign sheet is a block of bytes: a header of 24 bytes and r records of 24 bytes each. Numbers are little-endian.
+ *
+ *   header   0 to 3 the letters WARM, 4 the edition (1), 5 the number of units d (1 to 64), 6 to 7 the number of records r (0 to 256),
+ *            8 to 9 the number of the first record (0 if there is no step), 10 to 11 the bound on warm-ups, 12 to 15 zero,
+ *            16 to 23 the start set: the units that are on before the first step, all below d
+ *   record   0 to 7 the lower set: the units that must be on, 8 to 15 the upper set: the units that may be on, all below d, 16 the least and
+ *            17 the greatest number of units on, 18 to 19 the number of the next record (0 at the end), 20 to 23 a job tag, any value
+ *
+ * Records have the numbers 1 to r. The steps are the first record, its next one, and so on; a record that is not reached may hold anything.
+ * docs/FORMAT.md says all this at more length. No call needs a sheet that was checked before: any bytes of any length get a full reply or one
+ * refusal.
  *
  * A reply whose field `refusal` is 0 is a full reply. Otherwise `refusal` is a number of the table below, `place` says where, every other
  * field is 0, and every buffer that was lent is exactly as it came.
@@ -28,7 +40,8 @@
  * step before; for the first step the start set is the step before. Its total is the sum over all steps.
  *
  * No call allocates, blocks, prints or keeps state: threads may call at will. Buffers are aligned for their type and do not overlap. A pointer
- * may be NULL where its length is 0. The library is for x86-64 Linux, and needs memcpy and memset of its host.
+ * may be NULL where its length is 0. The archive is for x86-64 and the calling convention of Linux (System V), built for any such processor, and
+ * needs memcpy and memset of its host, and at most 8,192 bytes of stack.
  */
 #ifndef WARM_H
 #define WARM_H

@@ -1,6 +1,6 @@
 -- `sheet::head::has_letters` meets its contract: the first letter that differs decides.
 use mathlib.Core.Path.{sym, _∙_}
-use mathlib.Core.Bool.{and-true as last}
+use mathlib.Core.Bool.{and-true}
 use native.Mathlib.Omega.{arith}
 use borrow.Author.Needs.{needs}
 use borrow.Author.Tests.{eq-eqb, ne-eqb}
@@ -53,7 +53,7 @@ array-read-result c = search needs
 returns-4 : tie.Need-returns-4
 returns-4 c =
     let s = now (c .before .before .before .before .before .before .before .args .s) in
-    sym (spelled s (omega arith) ∙ simp (eq-eqb (getD s 0 0) 87 (c .before .before .before .before .before .if1 .left), eq-eqb (getD s 1 0) 65 (c .before .before .before .if2 .left), eq-eqb (getD s 2 0) 82 (c .before .if3 .left), last (eqb (getD s 3 0) 77)))
+    sym (spelled s (omega arith) ∙ simp (eq-eqb (getD s 0 0) 87 (c .before .before .before .before .before .if1 .left), eq-eqb (getD s 1 0) 65 (c .before .before .before .if2 .left), eq-eqb (getD s 2 0) 82 (c .before .if3 .left), and-true (eqb (getD s 3 0) 77)))
 
 pub has-letters-spec : {M : Type 1} → statement M
 has-letters-spec =
