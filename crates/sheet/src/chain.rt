@@ -3,8 +3,10 @@ use super::Refusal;
 use super::Sheet;
 use super::record::follow;
 ghost use mathlib.Core.Path.{_≡_};
+ghost use mathlib.Core.Bool.{cond};
 ghost use Prim.Native.Nat.{_≤_, _<_};
 ghost use lib.ListN.{length};
+ghost use Rattle.units.specs.Sets.{insert};
 ghost use Rattle.sheet.specs.Format.{sheetLength, recordLimit};
 ghost use Rattle.sheet.specs.Told.{chainTold, chainRead};
 ghost use Rattle.sheet.specs.Walking.{isMet, onto};
@@ -22,6 +24,14 @@ pub enum ChainAnswer {
     Ended(u32),
 }
 
+// s with unit u if that is asked for, else s.
+fn insert_if(asked: bool, s: u64, u: u32) -> u64
+    requires { ⌜ u < 64 ⌝ }
+    ensures { λ r. ⌜ r ≡ cond asked (insert s u) s ⌝ }
+{
+    if asked { units::insert(s, u) } else { s }
+}
+
 impl Walk {
     // Whether the walk has met record j.
     pub fn has_met(self, j: usize) -> bool
@@ -33,14 +43,19 @@ impl Walk {
         units::contains(marks[word], ((j - 1) % 64) as u32)
     }
 
-    // The walk one record on, at record j.
+    // The walk one record on, at record j. All four words are written, at constant indices: after a write at a computed one the next step
+    // waits for the marks to come back from memory, and a sheet takes half as long again to read.
     pub fn step_onto(self, j: usize) -> Walk
         requires { ⌜ (0 < j) × (j ≤ recordLimit) × (self .steps < recordLimit) ⌝ }
         ensures { λ r. ⌜ r ≡ onto self j ⌝ }
     {
-        let mut marks = self.marks;
         let word = (j - 1) / 64;
-        marks[word] = units::insert(marks[word], ((j - 1) % 64) as u32);
+        let bit = ((j - 1) % 64) as u32;
+        let mut marks = self.marks;
+        marks[0] = insert_if(word == 0, marks[0], bit);
+        marks[1] = insert_if(word == 1, marks[1], bit);
+        marks[2] = insert_if(word == 2, marks[2], bit);
+        marks[3] = insert_if(word == 3, marks[3], bit);
         Walk {
             marks,
             at: j,
