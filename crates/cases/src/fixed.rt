@@ -10,6 +10,7 @@ use trials::layout::Space;
 use trials::layout::put_head;
 use trials::layout::put_limits;
 use trials::layout::put_link;
+use trials::layout::put_most_steps;
 use trials::tally::Tally;
 ghost use Prim.Native.Nat.{_<_};
 
@@ -36,25 +37,6 @@ fn put_plain_head(bytes: &mut Space, units: usize, records: usize)
             start: 1,
         },
     );
-}
-
-// The limits of step k, of two that take turns.
-fn in_turn(k: usize, odd: Limits, even: Limits) -> Limits {
-    if k % 2 == 1 {
-        return odd;
-    }
-    even
-}
-
-// Puts 256 steps into the records 1 to 256, with two kinds of limits in turns.
-pub fn put_most_steps(bytes: &mut Space, odd: Limits, even: Limits) {
-    let mut k = 0;
-    while k < 256 {
-        put_link(bytes, k, k + 1);
-        k += 1;
-        put_limits(bytes, k, in_turn(k, odd, even));
-    }
-    put_link(bytes, 256, 0);
 }
 
 // What the reader is to read from these sheets.

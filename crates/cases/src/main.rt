@@ -1,10 +1,9 @@
-// Tries the reader of sheets on thousands of sheets, sound ones and damaged ones, and the listing on some, and writes for each kind how often it was right.
+// Tries the reader of sheets on thousands of sheets, sound ones and damaged ones, and writes for each kind how often it was right.
 // What the reader must answer is known from how each sheet is made (docs/FORMAT.md has the format and the refusals).
 mod chain;
 mod fixed;
 mod header;
 mod kinds;
-mod listings;
 mod sound;
 mod steps;
 mod trial;
@@ -115,11 +114,9 @@ fn report_pairs(so_far: Tally) -> Tally {
 
 // Tries everything, and writes a line for each kind and one for all.
 fn main() {
-    let listings = listings::try_all();
-    listings.write(b"listings");
     let fixed = fixed::try_all();
     fixed.write(b"fixed sheets");
-    let sound = report(listings.plus(fixed), b"sound sheets", Kind::Sound);
+    let sound = report(fixed, b"sound sheets", Kind::Sound);
     let all = report_pairs(report_records(report_headers(sound)));
     all.write(b"in all");
 }

@@ -102,3 +102,22 @@ pub fn put_link(bytes: &mut Space, holder: usize, next: usize)
         put_u16(bytes, 24 * holder + 18, next);
     }
 }
+
+// The limits of step k, of two that take turns.
+fn in_turn(k: usize, odd: Limits, even: Limits) -> Limits {
+    if k % 2 == 1 {
+        return odd;
+    }
+    even
+}
+
+// Puts 256 steps into the records 1 to 256, with two kinds of limits in turns.
+pub fn put_most_steps(bytes: &mut Space, odd: Limits, even: Limits) {
+    let mut k = 0;
+    while k < 256 {
+        put_link(bytes, k, k + 1);
+        k += 1;
+        put_limits(bytes, k, in_turn(k, odd, even));
+    }
+    put_link(bytes, 256, 0);
+}

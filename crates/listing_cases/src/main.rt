@@ -1,5 +1,5 @@
-// Sheets whose listing is written out by hand: a refusal for the bound, no bytes, no step, and a full sheet with numbers of the most digits.
-use super::fixed::put_most_steps;
+// Tries the listing on sheets whose text is written out by hand (a refusal for the bound, no bytes, no step, and a full sheet with numbers of the most
+// digits), and writes how often it was right.
 use trials::layout::Head;
 use trials::layout::LONGEST;
 use trials::layout::Limits;
@@ -8,6 +8,7 @@ use trials::layout::Space;
 use trials::layout::put_head;
 use trials::layout::put_limits;
 use trials::layout::put_link;
+use trials::layout::put_most_steps;
 use trials::tally::Tally;
 ghost use Prim.Native.Nat.{_≤_, _<_};
 ghost use lib.ListN.{length};
@@ -190,10 +191,10 @@ fn try_halves() -> Tally {
     Tally::of(has_wide_listing(&bytes))
 }
 
-// Tries all sheets of this file.
-pub fn try_all() -> Tally {
-    try_nothing()
+fn main() {
+    let all = try_nothing()
         .plus(try_no_step())
         .plus(try_bound())
-        .plus(try_halves())
+        .plus(try_halves());
+    all.write(b"listings");
 }

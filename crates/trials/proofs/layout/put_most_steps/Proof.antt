@@ -1,8 +1,8 @@
--- `cases::fixed::put_most_steps` is safe and ends: k counts up to 256.
+-- `trials::layout::put_most_steps` is safe and ends: k counts up to 256.
 use Prim.Native.Nat.{_≤_, _-_}
 use borrow.Author.Needs.{needs}
-use Rattle.cases.proofs.fixed.put_most_steps.Statement.{statement}
-use Rattle.cases.proofs.fixed.put_most_steps.Tie as tie
+use Rattle.trials.proofs.layout.put_most_steps.Statement.{statement}
+use Rattle.trials.proofs.layout.put_most_steps.Tie as tie
 
 abbrev Inv-loop : tie.InvT-loop
 Inv-loop bytes₀ odd even k₀ bytes k = k ≤ 256

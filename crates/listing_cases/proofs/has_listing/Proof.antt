@@ -1,12 +1,12 @@
--- `cases::listings::has_listing` is safe: the listing lies within the array.
+-- `listing_cases::has_listing` is safe: the listing lies within the array.
 use mathlib.Core.Path.{sym}
 use lib.Seq.{length-take-le}
 use borrow.Author.Needs.{needs}
 use Rattle.listing.proofs.Listings.{listing-within}
-use Rattle.cases.proofs.listings.has_listing.Statement.{statement}
-use Rattle.cases.proofs.listings.has_listing.Tie as tie
-use Rattle.cases.proofs.listings.has_listing.Reads as reads
-use Rattle.cases.proofs.listings.has_listing.Lts as lts
+use Rattle.listing_cases.proofs.has_listing.Statement.{statement}
+use Rattle.listing_cases.proofs.has_listing.Tie as tie
+use Rattle.listing_cases.proofs.has_listing.Reads as reads
+use Rattle.listing_cases.proofs.has_listing.Lts as lts
 use Rattle.check.proofs.same.Reads as same-reads
 use Rattle.listing.proofs.list_plan.Reads as list-plan-reads
 
