@@ -1,22 +1,22 @@
 -- Laws on the listing of a sheet: what it is by what the reader and `warm_plan` say.
 use mathlib.Core.Path.{_≡_, refl, sym, ap, _∙_}
 use mathlib.Core.Bool.{Bool, true, false}
-use mathlib.Core.List.{List, [], _++_}
-use mathlib.Core.Logic.{_⊎_, inl, inr}
+use mathlib.Core.List.{List}
 use Prim.Native.Nat.{ℕ, _≤_, _<_}
 use native.Mathlib.Omega.{arith}
 use lib.Dec.{ltb}
 use lib.ListN.{length, length-append, take, drop}
+use lib.Seq.{length-take-le}
 use borrow.Author.Tests.{ltb-true, ltb-false}
 use Rattle.sheet.specs.declared.Summary.{Summary}
 use Rattle.sheet.specs.Answer.{Answer, Refused, Given, unless}
-use Rattle.sheet.specs.Format.{unitsOf, boundOf, startOf}
-use Rattle.sheet.specs.Reading.{stepsOf, readCauses, campaignOf}
+use Rattle.sheet.specs.Format.{boundOf, startOf}
+use Rattle.sheet.specs.Reading.{readCauses, campaignOf}
 use Rattle.sheet.specs.Told.{summaryOf, summaryRead}
 use Rattle.sheet.proofs.Answers.{unless-append, refused-whatever}
 use Rattle.switch.specs.Switch.{total}
 use Rattle.warm.specs.declared.Reply.{Reply}
-use Rattle.warm.specs.Entries.{supportOn, boundCauses, refusedReply, fullReply, written, planned, planAnswer, warmPlan}
+use Rattle.warm.specs.Entries.{supportOn, boundCauses, refusedReply, fullReply, written, planned, warmPlan}
 use Rattle.warm.proofs.Decoded.{many-steps, start-is, bound-is, units-are, few-steps}
 use Rattle.warm.proofs.Plans.{over-bound, in-bound, was-read, plan-open, plan-taken}
 use Rattle.listing.specs.Lines.{refusedLine, planLines, listed, listing, listPlan}
@@ -86,9 +86,11 @@ module _ (s : List ℕ) {x : Summary} (e : summaryRead s ≡ Given x) (out : Lis
             ∙ ap (λ (l : List ℕ). planLines (x .units) (x .steps) (x .bound) (x .start) l many) (found .1 .0)
             ∙ found .1 .1
 
--- the listing lies within the output
-pub listing-within : (s out : List ℕ) {r : ℕ} {after : List ℕ} → _≡_ {A = ℕ × List ℕ} (r, after) (listPlan s out) → r ≤ length after
+-- the listing lies within the output, so that it can be lent as a part of it
+pub listing-within : (s out : List ℕ) {r : ℕ} {after : List ℕ} → _≡_ {A = ℕ × List ℕ} (r, after) (listPlan s out)
+    → (r ≤ length after) × (r ≡ length (take r after))
 listing-within s out {r} {after} h =
     let count : r ≡ length (listing s) = ap (λ (y : ℕ × List ℕ). y .0) h in
     let text : after ≡ written (listing s) out = ap (λ (y : ℕ × List ℕ). y .1) h in
-    omega (arith, ap length text, length-append (listing s) (drop (length (listing s)) out))
+    let within : r ≤ length after = omega (arith, ap length text, length-append (listing s) (drop (length (listing s)) out)) in
+    (within, sym (length-take-le r after within))

@@ -1,6 +1,6 @@
 -- The table of the two hexadecimal digits of each byte: its rule, and what the rule says of each byte. The proof of `pair_of` compares the table of
 -- the code with the one that is computed from the rule.
-use mathlib.Core.Path.{_≡_, refl, ap, _∙_}
+use mathlib.Core.Path.{_≡_, ap, _∙_}
 use mathlib.Core.List.{List, [], _∷_}
 use Prim.Native.Nat.{ℕ, zero, suc, _+_, _*_, _/_, _%_, _<_}
 use native.Mathlib.Omega.{arith}

@@ -8,14 +8,14 @@ use lib.Dec.{ltb}
 abbrev pub digit : ℕ → ℕ
 digit x = cond (ltb x 10) (48 + x) (87 + x)
 
--- the decimal digits of a number below 10 ^ k, without leading zeros
+-- the decimal digits of a number that has at most k of them, without leading zeros (0 has one)
 unfoldable pub decimalIn : ℕ → ℕ → List ℕ
 decimalIn zero x = []
 decimalIn (suc k) x =
     let front = decimalIn k (x / 10) in
     cond (ltb x 10) (digit x ∷ []) (front ++ digit (x % 10) ∷ [])
 
--- the decimal digits of any number, without leading zeros: x is below 10 ^ (x + 1)
+-- the decimal digits of any number, without leading zeros: x has at most x + 1
 unfoldable pub decimal : ℕ → List ℕ
 decimal x = decimalIn (suc x) x
 

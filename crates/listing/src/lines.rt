@@ -4,7 +4,6 @@ use super::digits::put_decimal;
 use super::digits::put_hexadecimal;
 use units::difference;
 use units::size;
-ghost use mathlib.Core.Path.{_≡_};
 ghost use mathlib.Core.List.{_++_};
 ghost use Prim.Native.Nat.{_+_, _*_, _≤_, _<_};
 ghost use lib.ListN.{length};

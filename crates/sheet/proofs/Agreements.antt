@@ -1,6 +1,6 @@
 -- Sheets that agree are read the same but for tags: the same causes of refusal hold, and the campaigns differ in tags alone.
 use mathlib.Core.Path.{_≡_, refl, sym, ap, ap₂, _∙_}
-use mathlib.Core.Bool.{Bool, true, false, cond, _||_}
+use mathlib.Core.Bool.{Bool, true, false, cond, _||_, or-true}
 use mathlib.Core.List.{List, [], _∷_, _++_, map}
 use Prim.Native.Nat.{ℕ, zero, suc, _+_, _*_, _≤_, _<_, min}
 use native.Mathlib.Nat.{add-assoc, add-zero, zero-add}
@@ -16,10 +16,6 @@ use Rattle.sheet.specs.Format.{headerSize, recordOffset, lettersOf, unit
 use Rattle.sheet.specs.Numbers.{byteAt, u16At, u32At, u64At}
 use Rattle.sheet.specs.Reading.{formCauses, headerCauses, stepCauses, stepsCauses, recordsOn, stepsOf, readCauses}
 use Rattle.sheet.proofs.Records.{next-first, next-after}
-
-or-true : (b : Bool) → (b || true) ≡ true
-or-true true = refl
-or-true false = refl
 
 -- ---- numbers at equal bytes are equal
 

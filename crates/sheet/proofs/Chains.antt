@@ -4,8 +4,7 @@
 -- a set that has each of them as a unit: its size is their number, and it has no unit but 1 to r.
 -- `Walked s r w`: the walk's state w stands where the records `on` have been met, and the links still to be looked at decide as all links do.
 use mathlib.Core.Path.{_≡_, refl, sym, ap, _∙_, subst}
-use mathlib.Core.Logic.{_⊎_, inl, inr}
-use mathlib.Core.Bool.{Bool, true, false, _||_}
+use mathlib.Core.Bool.{true, false, _||_, or-assoc, or-false, or-true}
 use mathlib.Core.List.{List, [], _∷_, _++_}
 use Prim.Native.Nat.{ℕ, zero, suc, _+_, _-_, _/_, _^_, _≤_, _<_}
 use native.Mathlib.Nat.{pow-suc, suc-add}
@@ -16,7 +15,7 @@ use lib.ListN.{length, length-append, length-set, getD, set}
 use lib.Seq.{getD-set-same, getD-set-other}
 use borrow.Author.Tests.{eq-eqb, ne-eqb, lt-ltb, le-ltb, ltb-false}
 use Rattle.units.specs.Sets.{bit, contains, insert, size}
-use Rattle.units.proofs.Sets.{bit-empty, bit-zero, bit-insert-other, contains-insert, contains-insert-other, contains-empty, outside, size-empty, size-insert, size-step, size-below, unit-below, below-pow, bit-cases}
+use Rattle.units.proofs.Sets.{bit-empty, bit-zero, bit-insert-other, contains-insert, contains-insert-other, contains-empty, outside, size-empty, size-insert, size-step, size-below, bit-above, below-pow}
 use Rattle.sheet.specs.declared.chain.Walk.{Walk}
 use Rattle.sheet.specs.Answer.{Answer, Refused, Given, cause, unless}
 use Rattle.sheet.specs.Chain.{isIn, following, chainOf, linkCauses}
@@ -30,29 +29,13 @@ use Rattle.sheet.proofs.Answers.{refused-by, passed-by, none-left, past
 pub in-last : (j k : ℕ) (on : List ℕ) → isIn j (on ++ (k ∷ [])) ≡ (isIn j on || eqb j k)
 unfolding isIn
 in-last j k [] = or-false (eqb j k)
-  where
-    or-false : (b : Bool) → (b || false) ≡ b
-    or-false true = refl
-    or-false false = refl
-in-last j k (x ∷ on) = ap (λ b. eqb j x || b) (in-last j k on) ∙ or-assoc (eqb j x) (isIn j on) (eqb j k)
-  where
-    or-assoc : (a b c : Bool) → (a || (b || c)) ≡ ((a || b) || c)
-    or-assoc true b c = refl
-    or-assoc false b c = refl
+in-last j k (x ∷ on) = ap (λ b. eqb j x || b) (in-last j k on) ∙ sym (or-assoc (eqb j x) (isIn j on) (eqb j k))
 
 pub in-last-same : (k : ℕ) (on : List ℕ) → isIn k (on ++ (k ∷ [])) ≡ true
 in-last-same k on = in-last k k on ∙ ap (λ b. isIn k on || b) (eq-eqb k k refl) ∙ or-true (isIn k on)
-  where
-    or-true : (b : Bool) → (b || true) ≡ true
-    or-true true = refl
-    or-true false = refl
 
 pub in-last-other : (j k : ℕ) (on : List ℕ) → (j ≡ k → ⊥) → isIn j (on ++ (k ∷ [])) ≡ isIn j on
 in-last-other j k on h = in-last j k on ∙ ap (λ b. isIn j on || b) (ne-eqb j k h) ∙ or-false (isIn j on)
-  where
-    or-false : (b : Bool) → (b || false) ≡ b
-    or-false true = refl
-    or-false false = refl
 
 -- ---- distinct records
 
@@ -87,7 +70,7 @@ met-more {r} {on} j pos le new m =
       members = λ k. member k (ℕ-discrete k j);
       counted = size-insert x j absent ∙ omega (arith, m .counted, length-append on (j ∷ []));
       none-is-zero = bit-insert-other x j 0 (omega arith) ∙ m .none-is-zero;
-      within = below-pow (suc r) (insert x j) (λ u h. bit-insert-other x j u (omega arith) ∙ high u h (bit-cases x u));
+      within = below-pow (suc r) (insert x j) (λ u h. bit-insert-other x j u (omega arith) ∙ bit-above (suc r) x u (m .within) h);
     }
   where
     x : ℕ
@@ -95,10 +78,6 @@ met-more {r} {on} j pos le new m =
 
     absent : bit x j ≡ 0
     absent = outside x j (sym (m .members j) ∙ new)
-
-    high : (u : ℕ) → suc r ≤ u → (bit x u ≡ 0) ⊎ (bit x u ≡ 1) → bit x u ≡ 0
-    high u h (inl e) = e
-    high u h (inr e) = absurd (omega (arith, h, unit-below (suc r) x u (m .within) e))
 
     member : (k : ℕ) → Dec (k ≡ j) → isIn k (on ++ (j ∷ [])) ≡ contains (insert x j) k
     member k (yes e) = subst (λ (i : ℕ). isIn i (on ++ (j ∷ [])) ≡ contains (insert x j) i) (sym e) (in-last-same j on ∙ sym (contains-insert x j))

@@ -1,7 +1,6 @@
 // The steps of a sheet that passes the reader, as columns: lower sets, upper sets, least and greatest numbers.
 use super::record::follow;
 use super::record::step_at;
-ghost use mathlib.Core.Path.{_≡_};
 ghost use Prim.Native.Nat.{_≤_};
 ghost use lib.ListN.{length};
 ghost use Rattle.sheet.specs.Chain.{Inside};

@@ -1,15 +1,8 @@
 -- `list_plan::main` is safe: the listing lies within the array.
-use mathlib.Core.Path.{sym}
-use lib.Seq.{length-take-le}
 use borrow.Author.Needs.{needs}
 use Rattle.listing.proofs.Listings.{listing-within}
 use Rattle.list_plan.proofs.main.Statement.{statement}
 use Rattle.list_plan.proofs.main.Tie as tie
-use Rattle.list_plan.proofs.main.Reads as reads
-use Rattle.list_plan.proofs.main.Lts as lts
-use Rattle.io.proofs.read_full.Reads as read-full-reads
-use Rattle.io.proofs.write_all.Reads as write-all-reads
-use Rattle.listing.proofs.list_plan.Reads as list-plan-reads
 
 slice-aggregate-read-full : tie.Need-slice-aggregate-read-full
 slice-aggregate-read-full c = search needs
@@ -27,10 +20,10 @@ list-plan-requires : tie.Need-list-plan-requires
 list-plan-requires c κs = search needs
 
 array-share-prefix-text : tie.Need-array-share-prefix-text
-array-share-prefix-text c = listing-within _ _ (c .list-plan .ensures)
+array-share-prefix-text c = listing-within _ _ (c .list-plan .ensures) .0
 
 slice-aggregate-write-all : tie.Need-slice-aggregate-write-all
-slice-aggregate-write-all c = sym (length-take-le (c .before .list-plan .result) (c .before .list-plan .last .1 .0) (listing-within _ _ (c .before .list-plan .ensures)))
+slice-aggregate-write-all c = listing-within _ _ (c .before .list-plan .ensures) .1
 
 write-all-requires : tie.Need-write-all-requires
 write-all-requires c κs = search needs

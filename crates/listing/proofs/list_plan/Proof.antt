@@ -8,11 +8,6 @@ use Rattle.listing.proofs.Places.{placed-as, placed-first}
 use borrow.Author.Needs.{needs}
 use Rattle.listing.proofs.list_plan.Statement.{statement}
 use Rattle.listing.proofs.list_plan.Tie as tie
-use Rattle.listing.proofs.list_plan.Reads as reads
-use Rattle.listing.proofs.list_plan.Lts as lts
-use Rattle.listing.proofs.lines.put_refused_line.Reads as put-refused-line-reads
-use Rattle.listing.proofs.list_read.Reads as list-read-reads
-use Rattle.sheet.proofs.open.read.Reads as read-reads
 
 read-requires : tie.Need-read-requires
 read-requires c κs = search needs

@@ -8,11 +8,6 @@ use Rattle.listing.proofs.Places.{placed-as}
 use borrow.Author.Needs.{needs}
 use Rattle.listing.proofs.list_read.Statement.{statement}
 use Rattle.listing.proofs.list_read.Tie as tie
-use Rattle.listing.proofs.list_read.Reads as reads
-use Rattle.listing.proofs.list_read.Lts as lts
-use Rattle.listing.proofs.lines.put_refused_line.Reads as put-refused-line-reads
-use Rattle.listing.proofs.put_plan.Reads as put-plan-reads
-use Rattle.warm.proofs.planning.warm_plan.Reads as warm-plan-reads
 
 slice-aggregate-warm-plan : tie.Need-slice-aggregate-warm-plan
 slice-aggregate-warm-plan c = search needs

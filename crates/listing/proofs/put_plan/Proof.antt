@@ -11,11 +11,6 @@ use Rattle.listing.proofs.Places.{placed-then, placed-length, placed-as
 use borrow.Author.Needs.{needs}
 use Rattle.listing.proofs.put_plan.Statement.{statement}
 use Rattle.listing.proofs.put_plan.Tie as tie
-use Rattle.listing.proofs.put_plan.Reads as reads
-use Rattle.listing.proofs.put_plan.Lts as lts
-use Rattle.listing.proofs.lines.put_first_line.Reads as put-first-line-reads
-use Rattle.listing.proofs.lines.put_step_lines.Reads as put-step-lines-reads
-use Rattle.listing.proofs.lines.put_total_line.Reads as put-total-line-reads
 
 cast-n : tie.Need-cast-n
 cast-n c = search needs

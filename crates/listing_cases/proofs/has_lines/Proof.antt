@@ -3,11 +3,6 @@ use Prim.Native.Nat.{_+_, _-_, _*_, _≤_}
 use borrow.Author.Needs.{needs}
 use Rattle.listing_cases.proofs.has_lines.Statement.{statement}
 use Rattle.listing_cases.proofs.has_lines.Tie as tie
-use Rattle.listing_cases.proofs.has_lines.Reads as reads
-use Rattle.listing_cases.proofs.has_lines.Lts as lts
-use Rattle.listing_cases.proofs.has_line.Reads as has-line-reads
-use Rattle.listing_cases.proofs.has_total.Reads as has-total-reads
-use Rattle.listing_cases.proofs.left_out.Reads as left-out-reads
 
 abbrev Inv-loop : tie.InvT-loop
 Inv-loop text at₀ step₀ at step = (step ≤ 257) × (at + 24 ≤ 31 + 24 * step)

@@ -1,14 +1,8 @@
 -- `listing_cases::has_listing` is safe: the listing lies within the array.
-use mathlib.Core.Path.{sym}
-use lib.Seq.{length-take-le}
 use borrow.Author.Needs.{needs}
 use Rattle.listing.proofs.Listings.{listing-within}
 use Rattle.listing_cases.proofs.has_listing.Statement.{statement}
 use Rattle.listing_cases.proofs.has_listing.Tie as tie
-use Rattle.listing_cases.proofs.has_listing.Reads as reads
-use Rattle.listing_cases.proofs.has_listing.Lts as lts
-use Rattle.check.proofs.same.Reads as same-reads
-use Rattle.listing.proofs.list_plan.Reads as list-plan-reads
 
 sub-list-plan : tie.Need-sub-list-plan
 sub-list-plan c = search needs
@@ -23,10 +17,10 @@ list-plan-requires : tie.Need-list-plan-requires
 list-plan-requires c κs = search needs
 
 array-share-prefix-text : tie.Need-array-share-prefix-text
-array-share-prefix-text c = listing-within _ _ (c .list-plan .ensures)
+array-share-prefix-text c = listing-within _ _ (c .list-plan .ensures) .0
 
 slice-aggregate-same : tie.Need-slice-aggregate-same
-slice-aggregate-same c = sym (length-take-le (c .before .list-plan .result) (c .before .list-plan .last .1 .0) (listing-within _ _ (c .before .list-plan .ensures)))
+slice-aggregate-same c = listing-within _ _ (c .before .list-plan .ensures) .1
 
 same-requires : tie.Need-same-requires
 same-requires c κs = search needs

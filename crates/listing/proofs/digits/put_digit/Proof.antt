@@ -7,9 +7,6 @@ use Rattle.listing.proofs.Numerals.{decimal-digit}
 use Rattle.listing.proofs.Places.{placed-as}
 use Rattle.listing.proofs.digits.put_digit.Statement.{statement}
 use Rattle.listing.proofs.digits.put_digit.Tie as tie
-use Rattle.listing.proofs.digits.put_digit.Reads as reads
-use Rattle.listing.proofs.digits.put_digit.Lts as lts
-use Rattle.listing.proofs.digits.put_byte.Reads as put-byte-reads
 
 cast-put-byte : tie.Need-cast-put-byte
 cast-put-byte c = search needs

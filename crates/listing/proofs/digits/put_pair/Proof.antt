@@ -7,10 +7,6 @@ use borrow.Author.Needs.{needs}
 use Rattle.listing.proofs.Places.{placed-then, placed-length, placed-as}
 use Rattle.listing.proofs.digits.put_pair.Statement.{statement}
 use Rattle.listing.proofs.digits.put_pair.Tie as tie
-use Rattle.listing.proofs.digits.put_pair.Reads as reads
-use Rattle.listing.proofs.digits.put_pair.Lts as lts
-use Rattle.listing.proofs.digits.pair_of.Reads as pair-of-reads
-use Rattle.listing.proofs.digits.put_byte.Reads as put-byte-reads
 
 pair-of-requires : tie.Need-pair-of-requires
 pair-of-requires c κs = search needs

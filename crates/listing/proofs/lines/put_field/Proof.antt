@@ -4,10 +4,6 @@ use Rattle.listing.proofs.Places.{placed-then, placed-length}
 use borrow.Author.Needs.{needs}
 use Rattle.listing.proofs.lines.put_field.Statement.{statement}
 use Rattle.listing.proofs.lines.put_field.Tie as tie
-use Rattle.listing.proofs.lines.put_field.Reads as reads
-use Rattle.listing.proofs.lines.put_field.Lts as lts
-use Rattle.listing.proofs.digits.put_decimal.Reads as put-decimal-reads
-use Rattle.listing.proofs.lines.put_text.Reads as put-text-reads
 
 put-text-requires : tie.Need-put-text-requires
 put-text-requires c κs = omega (arith, c .before .before .before .pre)

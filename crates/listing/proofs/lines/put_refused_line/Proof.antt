@@ -6,10 +6,6 @@ use Rattle.listing.proofs.Places.{placed-then, placed-length}
 use borrow.Author.Needs.{needs}
 use Rattle.listing.proofs.lines.put_refused_line.Statement.{statement}
 use Rattle.listing.proofs.lines.put_refused_line.Tie as tie
-use Rattle.listing.proofs.lines.put_refused_line.Reads as reads
-use Rattle.listing.proofs.lines.put_refused_line.Lts as lts
-use Rattle.listing.proofs.digits.put_byte.Reads as put-byte-reads
-use Rattle.listing.proofs.lines.put_field.Reads as put-field-reads
 
 slice-aggregate-put-field : tie.Need-slice-aggregate-put-field
 slice-aggregate-put-field c = search needs

@@ -6,12 +6,6 @@ use Rattle.listing.proofs.Places.{placed-then, placed-length}
 use borrow.Author.Needs.{needs}
 use Rattle.listing.proofs.lines.put_step_line.Statement.{statement}
 use Rattle.listing.proofs.lines.put_step_line.Tie as tie
-use Rattle.listing.proofs.lines.put_step_line.Reads as reads
-use Rattle.listing.proofs.lines.put_step_line.Lts as lts
-use Rattle.listing.proofs.digits.put_byte.Reads as put-byte-reads
-use Rattle.listing.proofs.digits.put_decimal.Reads as put-decimal-reads
-use Rattle.listing.proofs.digits.put_hexadecimal.Reads as put-hexadecimal-reads
-use Rattle.listing.proofs.lines.put_field.Reads as put-field-reads
 
 put-decimal-requires : tie.Need-put-decimal-requires
 put-decimal-requires c κs = omega (arith, c .before .before .pre .1, decimal-width 2 (c .before .before .args .step) (c .before .before .pre .0 .0), decimal-width 1 (c .before .before .args .many) (c .before .before .pre .0 .1))

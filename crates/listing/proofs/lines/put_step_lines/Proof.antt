@@ -11,11 +11,6 @@ use Rattle.listing.proofs.Stepping.{Stepping, started, onward, ended}
 use borrow.Author.Needs.{needs}
 use Rattle.listing.proofs.lines.put_step_lines.Statement.{statement}
 use Rattle.listing.proofs.lines.put_step_lines.Tie as tie
-use Rattle.listing.proofs.lines.put_step_lines.Reads as reads
-use Rattle.listing.proofs.lines.put_step_lines.Lts as lts
-use Rattle.listing.proofs.lines.put_step_line.Reads as put-step-line-reads
-use Rattle.units.proofs.difference.Reads as difference-reads
-use Rattle.units.proofs.size.Reads as size-reads
 
 abbrev Inv-loop : tie.InvT-loop
 Inv-loop start plan out₀ at before₀ next₀ i₀ out before next i = (i ≤ length plan) × Stepping start plan out₀ at i before out next

@@ -9,8 +9,6 @@ use Rattle.listing.proofs.Places.{placed-none, placed-more, placed-leng
 use borrow.Author.Needs.{needs}
 use Rattle.listing.proofs.lines.put_text.Statement.{statement}
 use Rattle.listing.proofs.lines.put_text.Tie as tie
-use Rattle.listing.proofs.lines.put_text.Reads as reads
-use Rattle.listing.proofs.lines.put_text.Lts as lts
 
 abbrev Inv-loop : tie.InvT-loop
 Inv-loop text out₀ at i₀ out i = (i ≤ length text) × Placed (take i text) out₀ at out (at + i)

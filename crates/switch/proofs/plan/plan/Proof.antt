@@ -14,11 +14,6 @@ use Rattle.switch.specs.Support.{supportSet}
 use Rattle.switch.proofs.Planning.{Planned, plan-begun, plan-on, plan-done, steps-length, steps-at, feasible-at, ranking-at}
 use Rattle.switch.proofs.plan.plan.Statement.{statement}
 use Rattle.switch.proofs.plan.plan.Tie as tie
-use Rattle.switch.proofs.plan.plan.Reads as reads
-use Rattle.switch.proofs.plan.plan.Lts as lts
-use Rattle.switch.proofs.plan.step_set.Reads as step-set-reads
-use Rattle.units.proofs.difference.Reads as difference-reads
-use Rattle.units.proofs.size.Reads as size-reads
 
 abbrev Inv-loop : tie.InvT-loop
 Inv-loop lower upper least greatest start out₀ before₀ total₀ i₀ out before total i = (i ≤ length lower) × Planned (columns lower upper least greatest) start out₀ out i before total
@@ -30,57 +25,45 @@ abbrev μ-loop : tie.MeasureT-loop
 few : (c : tie.After-size Inv-loop μ-loop) → c .size .result ≤ 64
 few c = omega (arith, c .size .ensures, size-below 64 (c .before .difference .result) (omega (arith, c .before .difference .ok)))
 
--- src/plan.rt:61:5
 loop-holds : tie.Need-loop-holds Inv-loop μ-loop
 loop-holds c =
     let a = c .before .before .before .before .before .args in
     let g = c .before .before .before .before .before .pre .0 in
     (omega arith, plan-begun (columns (now (a .lower)) (now (a .upper)) (now (a .least)) (now (a .greatest))) (a .start) (now (a .out)))
 
--- src/plan.rt:62:45
 shared-slice-read-step-set : tie.Need-shared-slice-read-step-set Inv-loop μ-loop
 shared-slice-read-step-set c = omega (arith, c .before .before .before .before .before .before .before .before .pre .0 .leasts)
 
--- src/plan.rt:62:55
 shared-slice-read-step-set-2 : tie.Need-shared-slice-read-step-set-2 Inv-loop μ-loop
 shared-slice-read-step-set-2 c = omega (arith, c .before .before .before .before .before .before .before .before .before .pre .0 .greatests)
 
--- src/plan.rt:62:13
 step-set-requires : tie.Need-step-set-requires Inv-loop μ-loop
 step-set-requires c κs =
     let a = c .before .before .before .before .before .before .before .before .before .args in
     let g = c .before .before .before .before .before .before .before .before .before .pre .0 in
     (g .uppers, (c .before .before .loop-test .taken, feasible-at g (c .before .before .before .loop .i) (c .before .before .loop-test .taken)))
 
--- src/plan.rt:63:23
 difference-requires : tie.Need-difference-requires Inv-loop μ-loop
 difference-requires c κs = search needs
 
--- src/plan.rt:63:18
 size-requires : tie.Need-size-requires Inv-loop μ-loop
 size-requires c κs = search needs
 
--- src/plan.rt:63:9
 add-total : tie.Need-add-total Inv-loop μ-loop
 add-total c = omega (arith, few c, c .before .before .before .before .before .before .loop .inv .1 .small, c .before .before .before .before .before .before .loop .inv .0, c .before .before .before .before .before .before .before .before .before .before .before .before .pre .0 .few)
 
--- src/plan.rt:64:9
 mul-out : tie.Need-mul-out Inv-loop μ-loop
 mul-out c = omega (arith, c .before .before .before .before .before .loop-test .taken, c .before .before .before .before .before .before .before .before .before .before .before .before .good .0 .1)
 
--- src/plan.rt:64:9
 slice-write-out : tie.Need-slice-write-out Inv-loop μ-loop
 slice-write-out c = omega (arith, c .before .before .before .before .before .loop-test .taken, c .before .before .before .before .before .before .before .before .before .before .before .before .pre .1, c .before .before .before .before .before .before .loop .inv .1 .same-long)
 
--- src/plan.rt:66:9
 add-i : tie.Need-add-i Inv-loop μ-loop
 add-i c = omega (arith, c .before .before .before .before .before .loop-test .taken, c .before .before .before .before .before .before .before .before .before .before .before .before .pre .0 .few)
 
--- src/plan.rt:61:5
 loop-less : tie.Need-loop-less Inv-loop μ-loop
 loop-less c = omega (arith, c .before .before .before .before .before .loop-test .taken)
 
--- src/plan.rt:61:5
 loop-again : tie.Need-loop-again Inv-loop μ-loop
 loop-again c =
     let a = c .before .before .before .before .before .before .before .before .before .before .before .before .args in
@@ -94,11 +77,9 @@ loop-again c =
       rw many (plan-on (l .inv .1) x (omega (arith, c .before .before .before .before .before .before .before .before .before .before .before .before .pre .1)) (steps-at g (l .i) in-range) is (omega (arith, many, few c))),
     )
 
--- src/plan.rt:49:1
 same-length : tie.Need-same-length Inv-loop μ-loop
 same-length c = c .before .loop .inv .1 .same-long
 
--- src/plan.rt:49:1
 returns : tie.Need-returns Inv-loop μ-loop
 returns c =
     let a = c .before .before .before .before .before .before .before .args in

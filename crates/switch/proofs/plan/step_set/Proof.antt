@@ -13,51 +13,34 @@ use Rattle.switch.proofs.Ranks.{ranks-ordered}
 use Rattle.switch.proofs.Supporting.{begun, leave-room, join-room, support-leave, support-join, support-stay}
 use Rattle.switch.proofs.plan.step_set.Statement.{statement}
 use Rattle.switch.proofs.plan.step_set.Tie as tie
-use Rattle.switch.proofs.plan.step_set.Reads as reads
-use Rattle.switch.proofs.plan.step_set.Lts as lts
-use Rattle.switch.proofs.pick.by_rank.Reads as by-rank-reads
-use Rattle.units.proofs.difference.Reads as difference-reads
-use Rattle.units.proofs.intersection.Reads as intersection-reads
-use Rattle.units.proofs.size.Reads as size-reads
-use Rattle.units.proofs.union.Reads as union-reads
 
--- src/plan.rt:31:16
 mul-must : tie.Need-mul-must
 mul-must c = search needs
 
--- src/plan.rt:31:16
 shared-slice-read-must : tie.Need-shared-slice-read-must
 shared-slice-read-must c = search needs
 
--- src/plan.rt:32:15
 mul-may : tie.Need-mul-may
 mul-may c = search needs
 
--- src/plan.rt:32:15
 shared-slice-read-may : tie.Need-shared-slice-read-may
 shared-slice-read-may c = search needs
 
--- src/plan.rt:33:23
 intersection-requires : tie.Need-intersection-requires
 intersection-requires c κs = search needs
 
--- src/plan.rt:33:9
 union-requires : tie.Need-union-requires
 union-requires c κs = search needs
 
--- src/plan.rt:34:9
 size-requires : tie.Need-size-requires
 size-requires c κs = search needs
 
--- src/plan.rt:37:48
 difference-requires : tie.Need-difference-requires
 difference-requires c κs = search needs
 
--- src/plan.rt:37:73
 sub-by-rank : tie.Need-sub-by-rank
 sub-by-rank c = search needs
 
--- src/plan.rt:37:13
 by-rank-requires : tie.Need-by-rank-requires
 by-rank-requires c κs =
     let a = c .before .before .before .before .before .before .before .before .before .args in
@@ -70,11 +53,9 @@ by-rank-requires c κs =
     let rest = c .difference .ensures ∙ ap (λ (x : ℕ). difference x l) start in
     (c .before .before .before .before .before .before .before .before .before .pre .0, (omega arith, omega (arith, leave-room ranks (ranks-ordered _ _ _) l u (a .least) (a .greatest) (a .before) fits, ap size rest)))
 
--- src/plan.rt:38:9
 difference-requires-2 : tie.Need-difference-requires-2
 difference-requires-2 c κs = search needs
 
--- src/plan.rt:38:9
 returns : tie.Need-returns
 returns c =
     let a = c .before .before .before .before .before .before .before .before .before .before .before .args in
@@ -89,15 +70,12 @@ returns c =
     ∙ ap₂ difference start (c .before .by-rank .ensures ∙ ap₂ (taken (toward true ranks)) (ap (λ (x : ℕ). x - a .greatest) many) rest)
     ∙ support-leave ranks (ranks-ordered _ _ _) l u (a .least) (a .greatest) (a .before) fits (omega arith)
 
--- src/plan.rt:42:48
 difference-requires-3 : tie.Need-difference-requires-3
 difference-requires-3 c κs = search needs
 
--- src/plan.rt:42:72
 sub-by-rank-2 : tie.Need-sub-by-rank-2
 sub-by-rank-2 c = search needs
 
--- src/plan.rt:42:13
 by-rank-requires-2 : tie.Need-by-rank-requires-2
 by-rank-requires-2 c κs =
     let a = c .before .before .before .before .before .before .before .before .before .before .args in
@@ -110,11 +88,9 @@ by-rank-requires-2 c κs =
     let rest = c .difference3 .ensures ∙ ap (difference u) start in
     (c .before .before .before .before .before .before .before .before .before .before .pre .0, (omega arith, omega (arith, join-room ranks (ranks-ordered _ _ _) l u (a .least) (a .greatest) (a .before) fits, ap size rest)))
 
--- src/plan.rt:43:9
 union-requires-2 : tie.Need-union-requires-2
 union-requires-2 c κs = search needs
 
--- src/plan.rt:43:9
 returns-2 : tie.Need-returns-2
 returns-2 c =
     let a = c .before .before .before .before .before .before .before .before .before .before .before .before .args in
@@ -129,7 +105,6 @@ returns-2 c =
     ∙ ap₂ union start (c .before .by-rank2 .ensures ∙ ap₂ (taken ranks) (ap (λ (x : ℕ). a .least - x) many) rest)
     ∙ support-join ranks (ranks-ordered _ _ _) l u (a .least) (a .greatest) (a .before) fits (omega arith)
 
--- src/plan.rt:15:1
 returns-3 : tie.Need-returns-3
 returns-3 c =
     let a = c .before .before .before .before .before .before .before .before .before .args in

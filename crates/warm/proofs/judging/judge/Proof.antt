@@ -7,33 +7,22 @@ use Rattle.warm.specs.Entries.{fullReply, accepts}
 use Rattle.warm.proofs.Decoded.{few-steps, inside-steps, start-is, bound-is, part-is, columns-are, columns-long}
 use Rattle.warm.proofs.judging.judge.Statement.{statement}
 use Rattle.warm.proofs.judging.judge.Tie as tie
-use Rattle.warm.proofs.judging.judge.Reads as reads
-use Rattle.warm.proofs.judging.judge.Lts as lts
-use Rattle.sheet.proofs.columns.fill_columns.Reads as fill-columns-reads
-use Rattle.switch.proofs.check.check_plan.Reads as check-plan-reads
-use Rattle.warm.proofs.judging.yes_or_no.Reads as yes-or-no-reads
 
--- src/judging.rt:45:13
 cast-n : tie.Need-cast-n
 cast-n c = search needs
 
--- src/judging.rt:46:28
 slice-aggregate-fill-columns : tie.Need-slice-aggregate-fill-columns
 slice-aggregate-fill-columns c = search needs
 
--- src/judging.rt:46:40
 slice-aggregate-fill-columns-2 : tie.Need-slice-aggregate-fill-columns-2
 slice-aggregate-fill-columns-2 c = search needs
 
--- src/judging.rt:46:52
 slice-aggregate-fill-columns-3 : tie.Need-slice-aggregate-fill-columns-3
 slice-aggregate-fill-columns-3 c = search needs
 
--- src/judging.rt:46:64
 slice-aggregate-fill-columns-4 : tie.Need-slice-aggregate-fill-columns-4
 slice-aggregate-fill-columns-4 c = search needs
 
--- src/judging.rt:46:5
 fill-columns-requires : tie.Need-fill-columns-requires
 fill-columns-requires c κs =
     let s = now (c .before .before .before .before .before .before .before .args .sheet) in
@@ -41,55 +30,42 @@ fill-columns-requires c κs =
     let few = few-steps s e in
     (inside-steps s e, (few, (few, (few, few))))
 
--- src/judging.rt:47:28
 sub-check-plan : tie.Need-sub-check-plan
 sub-check-plan c = search needs
 
--- src/judging.rt:47:28
 part-check-plan-start : tie.Need-part-check-plan-start
 part-check-plan-start c = search needs
 
--- src/judging.rt:47:28
 part-check-plan-end : tie.Need-part-check-plan-end
 part-check-plan-end c = omega (arith, few-steps (now (c .before .before .before .before .before .before .before .before .before .before .before .before .before .args .sheet)) (c .before .before .before .before .before .before .before .before .before .before .before .before .before .pre .0), c .before .before .before .before .before .fill-columns .kept)
 
--- src/judging.rt:47:42
 sub-check-plan-2 : tie.Need-sub-check-plan-2
 sub-check-plan-2 c = search needs
 
--- src/judging.rt:47:42
 part-check-plan-start-2 : tie.Need-part-check-plan-start-2
 part-check-plan-start-2 c = search needs
 
--- src/judging.rt:47:42
 part-check-plan-end-2 : tie.Need-part-check-plan-end-2
 part-check-plan-end-2 c = omega (arith, few-steps (now (c .before .before .before .before .before .before .before .before .before .before .before .before .before .before .before .args .sheet)) (c .before .before .before .before .before .before .before .before .before .before .before .before .before .before .before .pre .0), c .before .before .before .before .before .before .before .fill-columns .kept)
 
--- src/judging.rt:47:56
 sub-check-plan-3 : tie.Need-sub-check-plan-3
 sub-check-plan-3 c = search needs
 
--- src/judging.rt:47:56
 part-check-plan-start-3 : tie.Need-part-check-plan-start-3
 part-check-plan-start-3 c = search needs
 
--- src/judging.rt:47:56
 part-check-plan-end-3 : tie.Need-part-check-plan-end-3
 part-check-plan-end-3 c = omega (arith, few-steps (now (c .before .before .before .before .before .before .before .before .before .before .before .before .before .before .before .before .before .args .sheet)) (c .before .before .before .before .before .before .before .before .before .before .before .before .before .before .before .before .before .pre .0), c .before .before .before .before .before .before .before .before .before .fill-columns .kept)
 
--- src/judging.rt:47:70
 sub-check-plan-4 : tie.Need-sub-check-plan-4
 sub-check-plan-4 c = search needs
 
--- src/judging.rt:47:70
 part-check-plan-start-4 : tie.Need-part-check-plan-start-4
 part-check-plan-start-4 c = search needs
 
--- src/judging.rt:47:70
 part-check-plan-end-4 : tie.Need-part-check-plan-end-4
 part-check-plan-end-4 c = omega (arith, few-steps (now (c .before .before .before .before .before .before .before .before .before .before .before .before .before .before .before .before .before .before .before .args .sheet)) (c .before .before .before .before .before .before .before .before .before .before .before .before .before .before .before .before .before .before .before .pre .0), c .before .before .before .before .before .before .before .before .before .before .before .fill-columns .kept)
 
--- src/judging.rt:47:9
 check-plan-requires : tie.Need-check-plan-requires
 check-plan-requires c κs =
     let s = now (c .before .before .before .before .before .before .before .before .before .before .before .before .before .before .before .before .before .before .before .before .args .sheet) in
@@ -102,11 +78,9 @@ check-plan-requires c κs =
     rw (lower, upper, least, greatest)
     (columns-long s e _ (c .before .before .before .before .before .before .before .before .before .before .before .before .before .before .before .before .before .before .before .before .pre .1) (λ y. y .lower), (columns-long s e _ (c .before .before .before .before .before .before .before .before .before .before .before .before .before .before .before .before .before .before .before .before .pre .1) (λ y. y .upper), (columns-long s e _ (c .before .before .before .before .before .before .before .before .before .before .before .before .before .before .before .before .before .before .before .before .pre .1) (λ y. y .least), (columns-long s e _ (c .before .before .before .before .before .before .before .before .before .before .before .before .before .before .before .before .before .before .before .before .pre .1) (λ y. y .greatest), omega (arith, c .before .before .before .before .before .before .before .before .before .before .before .before .before .before .before .before .before .before .before .before .pre .1, few-steps s e)))))
 
--- src/judging.rt:52:19
 yes-or-no-requires : tie.Need-yes-or-no-requires
 yes-or-no-requires c κs = search needs
 
--- src/judging.rt:34:1
 returns : tie.Need-returns
 unfolding accepts
 returns c =

@@ -7,37 +7,25 @@ use Rattle.warm.specs.Entries.{judged, warmVerdict}
 use Rattle.warm.proofs.Verdicts.{verdict-refused, verdict-misfit, verdict-given}
 use Rattle.warm.proofs.judging.warm_verdict.Statement.{statement}
 use Rattle.warm.proofs.judging.warm_verdict.Tie as tie
-use Rattle.warm.proofs.judging.warm_verdict.Reads as reads
-use Rattle.warm.proofs.judging.warm_verdict.Lts as lts
-use Rattle.sheet.proofs.open.read.Reads as read-reads
-use Rattle.warm.proofs.judging.judge.Reads as judge-reads
-use Rattle.warm.proofs.refused.Reads as refused-reads
 
--- src/judging.rt:61:11
 read-requires : tie.Need-read-requires
 read-requires c κs = search needs
 
--- src/judging.rt:62:29
 enum-known-x : tie.Need-enum-known-x
 enum-known-x c = search needs
 
--- src/judging.rt:62:35
 refused-requires : tie.Need-refused-requires
 refused-requires c κs = search needs
 
--- src/judging.rt:63:26
 enum-known-x-2 : tie.Need-enum-known-x-2
 enum-known-x-2 c = search needs
 
--- src/judging.rt:64:30
 cast-if1 : tie.Need-cast-if1
 cast-if1 c = search needs
 
--- src/judging.rt:65:17
 refused-requires-2 : tie.Need-refused-requires-2
 refused-requires-2 c κs = search needs
 
--- src/judging.rt:65:17
 returns : tie.Need-returns
 unfolding warmVerdict judged
 returns c =
@@ -45,11 +33,9 @@ returns c =
     let read = sym (c .before .before .before .before .before .before .read .ensures) ∙ ap readTold (c .before .before .before .before .x2 .given .1) in
     c .refused2 .ensures ∙ ap judged (verdict-misfit (now (a .sheet)) (now (a .plan)) read (c .before .if1 .taken))
 
--- src/judging.rt:67:13
 judge-requires : tie.Need-judge-requires
 judge-requires c κs = (sym (c .before .before .before .before .before .read .ensures) ∙ ap readTold (c .before .before .before .x2 .given .1), c .if1 .left)
 
--- src/judging.rt:57:1
 returns-2 : tie.Need-returns-2
 unfolding warmVerdict judged
 returns-2 c =
@@ -57,7 +43,6 @@ returns-2 c =
     let read = sym (c .before .before .before .before .read .ensures) ∙ ap readTold (c .before .before .x .given .1) in
     c .refused .ensures ∙ ap judged (verdict-refused (now (a .sheet)) (now (a .plan)) read)
 
--- src/judging.rt:57:1
 returns-3 : tie.Need-returns-3
 unfolding warmVerdict judged
 returns-3 c =

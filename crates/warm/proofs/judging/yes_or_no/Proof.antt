@@ -2,18 +2,13 @@
 use borrow.Author.Tests.{le-leb, lt-leb, not-true, not-false}
 use Rattle.warm.proofs.judging.yes_or_no.Statement.{statement}
 use Rattle.warm.proofs.judging.yes_or_no.Tie as tie
-use Rattle.warm.proofs.judging.yes_or_no.Reads as reads
-use Rattle.warm.proofs.judging.yes_or_no.Lts as lts
 
--- src/judging.rt:25:9
 returns : tie.Need-returns
 returns c = simp (not-true (c .before .args .feasible) (c .if1 .taken))
 
--- src/judging.rt:28:9
 returns-2 : tie.Need-returns-2
 returns-2 c = simp (not-false (c .before .before .args .feasible) (c .before .if1 .left), lt-leb _ _ (c .if2 .taken))
 
--- src/judging.rt:21:1
 returns-3 : tie.Need-returns-3
 returns-3 c = simp (not-false (c .before .before .args .feasible) (c .before .if1 .left), le-leb _ _ (c .if2 .left))
 

@@ -8,8 +8,6 @@ use lib.ListN.{length, take, drop, set, getD}
 use Rattle.warm.proofs.Copying.{copied-length, copied-more}
 use Rattle.warm.proofs.planning.copy_words.Statement.{statement}
 use Rattle.warm.proofs.planning.copy_words.Tie as tie
-use Rattle.warm.proofs.planning.copy_words.Reads as reads
-use Rattle.warm.proofs.planning.copy_words.Lts as lts
 
 abbrev Inv-loop : tie.InvT-loop
 Inv-loop from to₀ n i₀ to i = (i ≤ n) × (to ≡ take i from ++ drop i to₀)
@@ -17,23 +15,18 @@ Inv-loop from to₀ n i₀ to i = (i ≤ n) × (to ≡ take i from ++ drop i to�
 abbrev μ-loop : tie.MeasureT-loop
 μ-loop from to₀ n i₀ to i = n - i
 
--- src/planning.rt:24:5
 loop-holds : tie.Need-loop-holds Inv-loop μ-loop
 loop-holds c = (omega arith, refl)
 
--- src/planning.rt:25:17
 mul-to : tie.Need-mul-to Inv-loop μ-loop
 mul-to c = omega (arith, c .loop-test .taken, c .before .before .pre, c .before .before .good)
 
--- src/planning.rt:25:17
 shared-slice-read-to : tie.Need-shared-slice-read-to Inv-loop μ-loop
 shared-slice-read-to c = omega (arith, c .before .loop-test .taken, c .before .before .before .pre)
 
--- src/planning.rt:25:9
 mul-to-2 : tie.Need-mul-to-2 Inv-loop μ-loop
 mul-to-2 c = omega (arith, c .before .loop-test .taken, c .before .before .before .pre, c .before .before .before .good)
 
--- src/planning.rt:25:9
 slice-write-to : tie.Need-slice-write-to Inv-loop μ-loop
 slice-write-to c =
     let a = c .before .before .before .args in
@@ -42,15 +35,12 @@ slice-write-to c =
     let room = c .before .before .before .pre in
     omega (arith, ap length (l .inv .1), copied-length (now (a .from)) (now (a .to)) (l .i) (omega arith) (omega arith))
 
--- src/planning.rt:26:9
 add-i : tie.Need-add-i Inv-loop μ-loop
 add-i c = omega (arith, c .before .loop-test .taken)
 
--- src/planning.rt:24:5
 loop-less : tie.Need-loop-less Inv-loop μ-loop
 loop-less c = omega (arith, c .before .loop-test .taken)
 
--- src/planning.rt:24:5
 loop-again : tie.Need-loop-again Inv-loop μ-loop
 loop-again c =
     let a = c .before .before .before .args in
@@ -59,14 +49,12 @@ loop-again c =
     let room = c .before .before .before .pre in
     (omega arith, ap (λ t. set t (l .i) (getD (now (a .from)) (l .i) 0)) (l .inv .1) ∙ copied-more (now (a .from)) (now (a .to)) (l .i) (omega arith) (omega arith))
 
--- src/planning.rt:19:1
 same-length : tie.Need-same-length Inv-loop μ-loop
 same-length c =
     let a = c .before .before .args in
     let l = c .before .loop in
     ap length (l .inv .1) ∙ copied-length (now (a .from)) (now (a .to)) (l .i) (omega (arith, l .inv .0, c .before .before .pre)) (omega (arith, l .inv .0, c .before .before .pre))
 
--- src/planning.rt:19:1
 returns : tie.Need-returns Inv-loop μ-loop
 returns c =
     let a = c .before .before .args in

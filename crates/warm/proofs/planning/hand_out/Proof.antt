@@ -13,25 +13,16 @@ use Rattle.warm.proofs.Decoded.{few-steps, bound-is}
 use Rattle.warm.proofs.Plans.{over-bound, in-bound, plan-part}
 use Rattle.warm.proofs.planning.hand_out.Statement.{statement}
 use Rattle.warm.proofs.planning.hand_out.Tie as tie
-use Rattle.warm.proofs.planning.hand_out.Reads as reads
-use Rattle.warm.proofs.planning.hand_out.Lts as lts
-use Rattle.warm.proofs.planning.copy_words.Reads as copy-words-reads
-use Rattle.warm.proofs.planning.make_plan.Reads as make-plan-reads
-use Rattle.warm.proofs.refused.Reads as refused-reads
 
--- src/planning.rt:56:37
 slice-aggregate-make-plan : tie.Need-slice-aggregate-make-plan
 slice-aggregate-make-plan c = search needs
 
--- src/planning.rt:56:9
 make-plan-requires : tie.Need-make-plan-requires
 make-plan-requires c κs = (c .before .before .before .pre .0, few-steps (now (c .before .before .before .args .sheet)) (c .before .before .before .pre .0))
 
--- src/planning.rt:58:9
 refused-requires : tie.Need-refused-requires
 refused-requires c κs = search needs
 
--- src/planning.rt:58:9
 returns : tie.Need-returns
 unfolding planned supportOn
 returns c =
@@ -43,25 +34,20 @@ returns c =
     ap (λ r. (r, out)) (c .refused .ensures ∙ ap (refusedReply 9) (handed .counted))
     ∙ ap (planned (startOf s) out) (over-bound s e (omega (arith, handed .counted)))
 
--- src/planning.rt:60:16
 slice-aggregate-copy-words : tie.Need-slice-aggregate-copy-words
 slice-aggregate-copy-words c = search needs
 
--- src/planning.rt:60:29
 cast-copy-words : tie.Need-cast-copy-words
 cast-copy-words c = search needs
 
--- src/planning.rt:60:5
 copy-words-requires : tie.Need-copy-words-requires
 copy-words-requires c κs =
     let s = now (c .before .before .before .before .before .before .before .before .before .before .args .sheet) in
     (omega (arith, few-steps s (c .before .before .before .before .before .before .before .before .before .before .pre .0), c .before .before .before .before .before .before .make-plan .kept), c .before .before .before .before .before .before .before .before .before .before .pre .1)
 
--- src/planning.rt:45:1
 same-length : tie.Need-same-length
 same-length c = search needs
 
--- src/planning.rt:45:1
 returns-2 : tie.Need-returns-2
 unfolding planned supportOn
 returns-2 c =

@@ -7,32 +7,22 @@ use Rattle.sheet.specs.Reading.{stepsOf}
 use Rattle.warm.proofs.Decoded.{few-steps, inside-steps, many-steps, start-is, part-is, columns-are, columns-sound}
 use Rattle.warm.proofs.planning.make_plan.Statement.{statement}
 use Rattle.warm.proofs.planning.make_plan.Tie as tie
-use Rattle.warm.proofs.planning.make_plan.Reads as reads
-use Rattle.warm.proofs.planning.make_plan.Lts as lts
-use Rattle.sheet.proofs.columns.fill_columns.Reads as fill-columns-reads
-use Rattle.switch.proofs.plan.plan.Reads as plan-reads
 
--- src/planning.rt:39:13
 cast-n : tie.Need-cast-n
 cast-n c = search needs
 
--- src/planning.rt:40:28
 slice-aggregate-fill-columns : tie.Need-slice-aggregate-fill-columns
 slice-aggregate-fill-columns c = search needs
 
--- src/planning.rt:40:40
 slice-aggregate-fill-columns-2 : tie.Need-slice-aggregate-fill-columns-2
 slice-aggregate-fill-columns-2 c = search needs
 
--- src/planning.rt:40:52
 slice-aggregate-fill-columns-3 : tie.Need-slice-aggregate-fill-columns-3
 slice-aggregate-fill-columns-3 c = search needs
 
--- src/planning.rt:40:64
 slice-aggregate-fill-columns-4 : tie.Need-slice-aggregate-fill-columns-4
 slice-aggregate-fill-columns-4 c = search needs
 
--- src/planning.rt:40:5
 fill-columns-requires : tie.Need-fill-columns-requires
 fill-columns-requires c κs =
     let s = now (c .before .before .before .before .before .before .before .args .sheet) in
@@ -40,55 +30,42 @@ fill-columns-requires c κs =
     let few = few-steps s e in
     (inside-steps s e, (few, (few, (few, few))))
 
--- src/planning.rt:41:24
 sub-plan : tie.Need-sub-plan
 sub-plan c = search needs
 
--- src/planning.rt:41:24
 part-plan-start : tie.Need-part-plan-start
 part-plan-start c = search needs
 
--- src/planning.rt:41:24
 part-plan-end : tie.Need-part-plan-end
 part-plan-end c = omega (arith, few-steps (now (c .before .before .before .before .before .before .before .before .before .before .before .before .before .args .sheet)) (c .before .before .before .before .before .before .before .before .before .before .before .before .before .pre .0), c .before .before .before .before .before .fill-columns .kept)
 
--- src/planning.rt:41:38
 sub-plan-2 : tie.Need-sub-plan-2
 sub-plan-2 c = search needs
 
--- src/planning.rt:41:38
 part-plan-start-2 : tie.Need-part-plan-start-2
 part-plan-start-2 c = search needs
 
--- src/planning.rt:41:38
 part-plan-end-2 : tie.Need-part-plan-end-2
 part-plan-end-2 c = omega (arith, few-steps (now (c .before .before .before .before .before .before .before .before .before .before .before .before .before .before .before .args .sheet)) (c .before .before .before .before .before .before .before .before .before .before .before .before .before .before .before .pre .0), c .before .before .before .before .before .before .before .fill-columns .kept)
 
--- src/planning.rt:41:52
 sub-plan-3 : tie.Need-sub-plan-3
 sub-plan-3 c = search needs
 
--- src/planning.rt:41:52
 part-plan-start-3 : tie.Need-part-plan-start-3
 part-plan-start-3 c = search needs
 
--- src/planning.rt:41:52
 part-plan-end-3 : tie.Need-part-plan-end-3
 part-plan-end-3 c = omega (arith, few-steps (now (c .before .before .before .before .before .before .before .before .before .before .before .before .before .before .before .before .before .args .sheet)) (c .before .before .before .before .before .before .before .before .before .before .before .before .before .before .before .before .before .pre .0), c .before .before .before .before .before .before .before .before .before .fill-columns .kept)
 
--- src/planning.rt:41:66
 sub-plan-4 : tie.Need-sub-plan-4
 sub-plan-4 c = search needs
 
--- src/planning.rt:41:66
 part-plan-start-4 : tie.Need-part-plan-start-4
 part-plan-start-4 c = search needs
 
--- src/planning.rt:41:66
 part-plan-end-4 : tie.Need-part-plan-end-4
 part-plan-end-4 c = omega (arith, few-steps (now (c .before .before .before .before .before .before .before .before .before .before .before .before .before .before .before .before .before .before .before .args .sheet)) (c .before .before .before .before .before .before .before .before .before .before .before .before .before .before .before .before .before .before .before .pre .0), c .before .before .before .before .before .before .before .before .before .before .before .fill-columns .kept)
 
--- src/planning.rt:41:5
 plan-requires : tie.Need-plan-requires
 plan-requires c κs =
     let s = now (c .before .before .before .before .before .before .before .before .before .before .before .before .before .before .before .before .before .before .before .before .before .args .sheet) in
@@ -100,11 +77,9 @@ plan-requires c κs =
     let greatest = part-is s e (λ y. y .greatest) _ (filled .1 .1 .1) in
     rw (lower, upper, least, greatest) (columns-sound s e, omega (arith, length-map (stepsOf s) (λ y. y .lower), many-steps s e, c .before .before .before .before .before .before .before .before .before .before .before .before .before .before .before .before .before .before .before .before .before .pre .1))
 
--- src/planning.rt:31:1
 same-length : tie.Need-same-length
 same-length c = search needs
 
--- src/planning.rt:31:1
 returns : tie.Need-returns
 returns c =
     let s = now (c .before .before .before .before .before .before .before .before .before .before .before .before .before .before .before .before .before .before .before .before .before .before .before .before .args .sheet) in

@@ -9,37 +9,25 @@ use Rattle.warm.specs.Entries.{planned, warmPlan}
 use Rattle.warm.proofs.Plans.{plan-refused, plan-short, plan-open}
 use Rattle.warm.proofs.planning.warm_plan.Statement.{statement}
 use Rattle.warm.proofs.planning.warm_plan.Tie as tie
-use Rattle.warm.proofs.planning.warm_plan.Reads as reads
-use Rattle.warm.proofs.planning.warm_plan.Lts as lts
-use Rattle.sheet.proofs.open.read.Reads as read-reads
-use Rattle.warm.proofs.planning.hand_out.Reads as hand-out-reads
-use Rattle.warm.proofs.refused.Reads as refused-reads
 
--- src/planning.rt:74:11
 read-requires : tie.Need-read-requires
 read-requires c κs = search needs
 
--- src/planning.rt:75:29
 enum-known-x : tie.Need-enum-known-x
 enum-known-x c = search needs
 
--- src/planning.rt:75:35
 refused-requires : tie.Need-refused-requires
 refused-requires c κs = search needs
 
--- src/planning.rt:76:26
 enum-known-x-2 : tie.Need-enum-known-x-2
 enum-known-x-2 c = search needs
 
--- src/planning.rt:77:29
 cast-if1 : tie.Need-cast-if1
 cast-if1 c = search needs
 
--- src/planning.rt:78:17
 refused-requires-2 : tie.Need-refused-requires-2
 refused-requires-2 c κs = search needs
 
--- src/planning.rt:78:17
 returns : tie.Need-returns
 unfolding warmPlan planned
 returns c =
@@ -49,11 +37,9 @@ returns c =
     let read = sym (c .before .before .before .before .before .before .read .ensures) ∙ ap readTold (c .before .before .before .before .x2 .given .1) in
     ap (λ r. (r, out)) (c .refused2 .ensures) ∙ ap (planned (startOf s) out) (plan-short s (length out) read (c .before .if1 .taken))
 
--- src/planning.rt:80:13
 hand-out-requires : tie.Need-hand-out-requires
 hand-out-requires c κs = (sym (c .before .before .before .before .before .before .read .ensures) ∙ ap readTold (c .before .before .before .before .x2 .given .1), c .before .if1 .left)
 
--- src/planning.rt:70:1
 returns-2 : tie.Need-returns-2
 unfolding warmPlan planned
 returns-2 c =
@@ -63,11 +49,9 @@ returns-2 c =
     let read = sym (c .before .before .before .before .read .ensures) ∙ ap readTold (c .before .before .x .given .1) in
     ap (λ r. (r, out)) (c .refused .ensures) ∙ ap (planned (startOf s) out) (plan-refused s (length out) read)
 
--- src/planning.rt:70:1
 same-length : tie.Need-same-length
 same-length c = search needs
 
--- src/planning.rt:70:1
 returns-3 : tie.Need-returns-3
 unfolding warmPlan planned
 returns-3 c =
