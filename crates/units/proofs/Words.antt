@@ -1,6 +1,6 @@
 -- The machine's operations on words of k bits, as sets: a shifted one is a single unit, and a mask with a complement is a difference.
 use mathlib.Core.Path.{_≡_, refl, sym, ap, _∙_, subst}
-use mathlib.Core.Logic.{_⊎_, inl, inr}
+use mathlib.Core.Logic.{_⊎_, inl, inr, ⊎-elim}
 use mathlib.Core.Bool.{not}
 use Prim.Native.Nat.{ℕ, zero, suc, _+_, _-_, _*_, _/_, _%_, _^_, _≤_, _<_, min}
 use native.Mathlib.Nat.{pow-suc, mod-lt, div-eq-of-lt}
@@ -11,8 +11,8 @@ use lib.Bits.{bitAnd, and-step, and-le-l}
 use lib.Count.{trailingZeros, leadingZeros, leading-top, under}
 use lib.Dec.{eqb, leb, lit<}
 use lib.Pow.{pow-pos, shl-exact, split}
-use Rattle.units.specs.Sets.{bit, intersection, difference, contains, Lowest, Highest}
-use Rattle.units.proofs.Sets.{bit-zero, bit-suc, bit-above, below-pow, bit-cases, bit-intersection, bit-single, bit-single-other, bit-empty, by-unit, set-ext}
+use Rattle.units.specs.Sets.{bit, intersection, difference, contains, remove, Lowest, Highest}
+use Rattle.units.proofs.Sets.{bit-zero, bit-suc, bit-above, below-pow, bit-cases, bit-intersection, bit-single, bit-single-other, bit-empty, bit-remove, bit-remove-other, by-unit, set-ext}
 
 -- a one shifted by a unit's number is that unit's weight
 pub one-shifted : (u : ℕ) → u < 64 → 1 * 2 ^ u % 2 ^ 64 ≡ 2 ^ u
@@ -75,6 +75,54 @@ trailing-lowest (suc k) a p h = go (a % 2) refl (λ q. trailing-lowest k (a / 2)
         below zero l f = bit-zero a ∙ e
         below (suc v) l f = bit-suc a v ∙ f v (omega arith)
     go (suc x) e ih = record { has = bit-zero a ∙ omega arith; first = λ v l. absurd (omega arith) }
+
+-- one less than a number has no digit where its lowest one stands, and the same digits above
+one-less : (u s : ℕ) → Lowest s u → (bit (s - 1) u ≡ 0) × ((v : ℕ) → u < v → bit (s - 1) v ≡ bit s v)
+one-less zero s l =
+    let odd : s % 2 ≡ 1 = sym (bit-zero s) ∙ l .has in
+    (bit-zero (s - 1) ∙ omega arith, λ v h. above v h)
+  where
+    above : (v : ℕ) → 0 < v → bit (s - 1) v ≡ bit s v
+    above zero h = absurd (omega arith)
+    above (suc v) h =
+        let half : (s - 1) / 2 ≡ s / 2 = omega (arith, bit-zero s, l .has) in
+        bit-suc (s - 1) v ∙ ap (λ (x : ℕ). bit x v) half ∙ sym (bit-suc s v)
+one-less (suc u) s l = go (one-less u (s / 2) (record { has = sym (bit-suc s u) ∙ l .has; first = λ v h. sym (bit-suc s v) ∙ l .first (suc v) (omega arith) }))
+  where
+    some : 0 < s
+    some = ⊎-elim (λ e. absurd (omega (arith, l .has, ap (λ (x : ℕ). bit x (suc u)) e, bit-empty (suc u)))) (λ h. h) (zero-or s)
+      where
+        zero-or : (x : ℕ) → (x ≡ 0) ⊎ (0 < x)
+        zero-or zero = inl refl
+        zero-or (suc x) = inr (omega arith)
+
+    half : (s - 1) / 2 ≡ s / 2 - 1
+    half = omega (arith, bit-zero s, l .first 0 (omega arith), some)
+
+    go : (bit (s / 2 - 1) u ≡ 0) × ((v : ℕ) → u < v → bit (s / 2 - 1) v ≡ bit (s / 2) v)
+        → (bit (s - 1) (suc u) ≡ 0) × ((v : ℕ) → suc u < v → bit (s - 1) v ≡ bit s v)
+    go (a, b) = (bit-suc (s - 1) u ∙ ap (λ (x : ℕ). bit x u) half ∙ a, above)
+      where
+        above : (v : ℕ) → suc u < v → bit (s - 1) v ≡ bit s v
+        above zero h = absurd (omega arith)
+        above (suc v) h = bit-suc (s - 1) v ∙ ap (λ (x : ℕ). bit x v) half ∙ b v (omega arith) ∙ sym (bit-suc s v)
+
+-- a mask with one less takes the lowest unit away
+pub and-one-less : (s u : ℕ) → Lowest s u → intersection s (s - 1) ≡ remove s u
+and-one-less s u l = set-ext (intersection s (s - 1)) (remove s u) (by-unit u (λ v. bit (intersection s (s - 1)) v ≡ bit (remove s u) v) this others)
+  where
+    less : (bit (s - 1) u ≡ 0) × ((v : ℕ) → u < v → bit (s - 1) v ≡ bit s v)
+    less = one-less u s l
+
+    this : bit (intersection s (s - 1)) u ≡ bit (remove s u) u
+    this = omega (arith, bit-intersection s (s - 1) u, less .0, bit-remove s u)
+
+    others : (v : ℕ) → (v ≡ u → ⊥) → bit (intersection s (s - 1)) v ≡ bit (remove s u) v
+    others v n = go (decLe u v)
+      where
+        go : Dec (u ≤ v) → bit (intersection s (s - 1)) v ≡ bit (remove s u) v
+        go (yes h) = omega (arith, bit-intersection s (s - 1) v, less .1 v (omega arith), bit-remove-other s u v n)
+        go (no h) = omega (arith, bit-intersection s (s - 1) v, l .first v (omega arith), bit-remove-other s u v n)
 
 -- the highest digit of a number is set
 top-bit : (a j : ℕ) → 2 ^ j ≤ a → a < 2 ^ suc j → bit a j ≡ 1

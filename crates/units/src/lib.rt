@@ -3,7 +3,7 @@
 // Each function is one or two machine operations and ensures that its result is the set, size or test that specs/Sets.antt defines.
 // Those that take a unit require that it is below 64. They serve the crates above; none is an open entry of the library.
 ghost use mathlib.Core.Path.{_≡_};
-ghost use Prim.Native.Nat.{_<_, _≤_};
+ghost use Prim.Native.Nat.{ℕ, _<_, _≤_};
 ghost use Rattle.units.specs.Sets.{union, intersection, difference, isSubset, contains, insert, remove, size, hasUnitFrom, Lowest, Highest};
 ghost use Rattle.units.specs.Limits.{hasFeasible};
 
@@ -101,6 +101,14 @@ pub fn lowest(s: u64) -> u32
     ensures { λ r. ⌜ Lowest s r ⌝ }
 {
     u64::trailing_zeros(s)
+}
+
+// s without its lowest unit, where it has one.
+pub fn without_lowest(s: u64) -> u64
+    requires { ⌜ 0 < s ⌝ }
+    ensures { λ r. ⌜ ((u : ℕ) → Lowest s u → r ≡ remove s u) ⌝ }
+{
+    s & (s - 1)
 }
 
 // The highest unit of s, which has one.
