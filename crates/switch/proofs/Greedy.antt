@@ -1,4 +1,5 @@
--- The set that FindSupport takes in a step is greedy, for every ranking that fits (`support-greedy`), and so is the plan (`plan-greedy`).
+-- The set that FindSupport takes in a step is greedy by the ranking (`support-in`); so it is greedy with the steps in view, for every ranking that
+-- fits them (`support-greedy`), and so is the plan (`plan-greedy`).
 use mathlib.Core.Path.{_≡_, refl}
 use mathlib.Core.Bool.{Bool, true}
 use mathlib.Core.List.{List, [], _∷_}
@@ -11,9 +12,9 @@ use Rattle.units.proofs.Sets.{bit-le, bit-union, bit-intersection, bit-differen
 use Rattle.switch.specs.Switch.{Satisfiable, Limits, Allows}
 use Rattle.switch.specs.Support.{taken, ranksBefore, supportSet, supportFrom, findSupport}
 use Rattle.switch.proofs.Chosen.{Chosen, taken-chosen}
-use Rattle.switch.proofs.Orders.{mirror-ordered}
+use Rattle.switch.proofs.Orders.{Ordered, mirror-ordered}
 use Rattle.switch.proofs.Ranks.{Refines, ranks-refines}
-use Rattle.switch.proofs.Stands.{StandsFor, Greedy, GreedyPlan}
+use Rattle.switch.proofs.Stands.{StandsFor, Greedy, GreedyIn, GreedyPlan}
 
 -- ---- the set of a step
 
@@ -46,15 +47,15 @@ module _ (ranks : ℕ → ℕ → Bool) (s : Limits) (before : ℕ) where
   unfolding supportSet begun leaving kept joining
   support-is = refl
 
-  module _ (ss : List Limits) (r : Refines (s ∷ ss) ranks) (x : ℕ) (f : Allows s x) where
+  module _ (o : Ordered ranks) (x : ℕ) (f : Allows s x) where
     -- there are as many units to leave and to join as are wanted
     leaving-chosen : Chosen (λ u v. ranks v u) (size begun - s .greatest) (difference begun (s .lower)) leaving
     unfolding leaving
-    leaving-chosen = taken-chosen (mirror-ordered (r .ordered)) _ _ (omega (arith, size-difference-le begun (s .lower), size-mono (s .lower) x (f .includes)))
+    leaving-chosen = taken-chosen (mirror-ordered o) _ _ (omega (arith, size-difference-le begun (s .lower), size-mono (s .lower) x (f .includes)))
 
     joining-chosen : Chosen ranks (s .least - size kept) (difference (s .upper) kept) joining
     unfolding joining
-    joining-chosen = taken-chosen (r .ordered) _ _ (omega (arith, size-difference-le (s .upper) kept, size-mono x (s .upper) (f .within)))
+    joining-chosen = taken-chosen o _ _ (omega (arith, size-difference-le (s .upper) kept, size-mono x (s .upper) (f .within)))
 
     -- so this holds of each unit
     digits-of : (u : ℕ)
@@ -80,15 +81,10 @@ module _ (ranks : ℕ → ℕ → Bool) (s : Limits) (before : ℕ) where
     support-size =
         rw support-is (omega (arith, size-union kept joining (λ u. omega (arith, digits-of u, bit-le (s .upper) u)), joining-chosen .counted))
 
-    -- a unit that ranks before another stands for it over the later steps, if it is not required now and the other is allowed now
-    stands-after : (v w : ℕ) → ranks v w ≡ true → bit (s .lower) v ≡ 0 → bit (s .upper) w ≡ 1 → StandsFor ss v w
-    unfolding StandsFor
-    stands-after v w h l a = (r .stands v w h l a) .1 .1
-
-    -- The set of the step is greedy. Where a unit leaves, there were more than the greatest number, so that none joins, and each unit that is kept
+    -- The set of the step is greedy by the ranking. Where a unit leaves, there were more than the greatest number, so that none joins, and each unit that is kept
     -- and not required ranks before it. Where a unit joins, fewer than the least number were kept, and it ranks before all that may be on and are not.
-    pub support-greedy : Greedy s ss before (supportSet ranks s before)
-    support-greedy = record {
+    pub support-in : GreedyIn ranks s before (supportSet ranks s before)
+    support-in = record {
       allowed = record {
         includes = λ u. omega (arith, digits-of u);
         within = λ u. omega (arith, digits-of u);
@@ -102,16 +98,31 @@ module _ (ranks : ℕ → ℕ → Bool) (s : Limits) (before : ℕ) where
             λ v t l.
                 let none : bit joining v ≡ 0 = omega (arith, bit-le-size joining v, joining-chosen .counted) in
                 let stays : bit (difference begun (s .lower)) v ≡ 1 = omega (arith, digits-of v, bit-difference begun (s .lower) v) in
-                (omega (arith, digits-of v), stands-after v w (leaving-chosen .ahead w v left stays (omega (arith, digits-of v))) l a),
+                (omega (arith, digits-of v), leaving-chosen .ahead w v left stays (omega (arith, digits-of v))),
           );
       joins = λ v t b l.
           let joined : bit joining v ≡ 1 = omega (arith, digits-of v) in (
             omega (arith, support-size, bit-le-size joining v, joining-chosen .counted),
             λ w a g.
                 let free : bit (difference (s .upper) kept) w ≡ 1 = omega (arith, digits-of w, bit-difference (s .upper) kept w) in
-                stands-after v w (joining-chosen .ahead v w joined free (omega (arith, digits-of w))) l a,
+                joining-chosen .ahead v w joined free (omega (arith, digits-of w)),
           );
     }
+
+  -- If the ranking fits, a unit that ranks before another stands for it over the later steps, where it is not required now and the other is allowed
+  -- now. So the set is greedy with those steps in view.
+  pub support-greedy : (ss : List Limits) → Refines (s ∷ ss) ranks → (x : ℕ) → Allows s x → Greedy s ss before (supportSet ranks s before)
+  unfolding StandsFor
+  support-greedy ss r x f =
+      let g = support-in (r .ordered) x f in
+      record {
+        allowed = g .allowed;
+        leaves = λ w b a z. let q = g .leaves w b a z in (q .0, λ v t l. (q .1 v t l .0, after v w (q .1 v t l .1) l a));
+        joins = λ v t b l. let q = g .joins v t b l in (q .0, λ w a z. after v w (q .1 w a z) l a);
+      }
+    where
+      after : (v w : ℕ) → ranks v w ≡ true → bit (s .lower) v ≡ 0 → bit (s .upper) w ≡ 1 → StandsFor ss v w
+      after v w h l a = (r .stands v w h l a) .1 .1
 
 -- ---- the plan
 

@@ -26,7 +26,7 @@ AsGood ss before x y = NoWorse ss (λ P. switches before x + total x P) (λ P. s
 -- So it costs nothing.
 -- Where g is within x, a unit outside g leaves. It was off before, for g gives up others only at the greatest number, and x has more units than g.
 -- So it spares a switch now, and could spare but one later.
-module _ {s : Limits} {ss : List Limits} {before g : ℕ} (greedy : Greedy s ss before g) where
+module _ (ss : List Limits) {s : Limits} {before g : ℕ} (greedy : Greedy s ss before g) where
   -- what a move from x leads to
   record Nearer (x : ℕ) : Type 0 where
     set : ℕ

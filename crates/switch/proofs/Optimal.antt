@@ -19,4 +19,4 @@ optimal before (s ∷ ss) (x ∷ plan) (g, gs) = let rest = optimal x ss plan gs
     best : ((P : List ℕ) → FeasiblePlan ss P → total x plan ≤ total x P)
         → (P : List ℕ) → FeasiblePlan (s ∷ ss) P → switches before x + total x plan ≤ total before P
     best ih [] f = absurd f
-    best ih (p ∷ P) (a, f) = let r = improve g p a P f in omega (arith, ih (r .0) (r .1 .0))
+    best ih (p ∷ P) (a, f) = let r = improve ss g p a P f in omega (arith, ih (r .0) (r .1 .0))

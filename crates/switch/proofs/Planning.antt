@@ -2,7 +2,7 @@
 use mathlib.Core.Path.{_≡_, refl, sym, ap, ap₂, _∙_, subst, fun-ext}
 use mathlib.Core.Bool.{true, cond}
 use mathlib.Core.List.{List, [], _∷_, _++_, map, append-assoc, append-nil}
-use Prim.Native.Nat.{ℕ, zero, suc, _+_, _*_, _-_, _≤_, _<_}
+use Prim.Native.Nat.{ℕ, zero, suc, _+_, _*_, _≤_, _<_}
 use native.Mathlib.Numerals.{add-one}
 use native.Mathlib.Omega.{arith}
 use lib.ListN.{length, length-set, take, drop, getD, set, drop-of-length-le, take-append-drop}
@@ -70,15 +70,12 @@ module _ where
   columns-at (l ∷ ls) (u ∷ us) (m ∷ ms) (g ∷ gs) (suc j) p q r h = columns-at ls us ms gs j (omega arith) (omega arith) (omega arith) (omega arith)
 
 -- the steps from j on are satisfiable too
-satisfiable-drop : (j : ℕ) (ss : List Limits) → Satisfiable ss → Satisfiable (drop j ss)
+pub satisfiable-drop : (j : ℕ) (ss : List Limits) → Satisfiable ss → Satisfiable (drop j ss)
 satisfiable-drop zero ss h = h
 satisfiable-drop (suc j) [] h = tt
 satisfiable-drop (suc j) (s ∷ ss) h = satisfiable-drop j ss (h .1)
 
 module _ {lower upper least greatest : List ℕ} (g : Columns lower upper least greatest) where
-  steps : List Limits
-  steps = columns lower upper least greatest
-
   pub steps-length : length (columns lower upper least greatest) ≡ length lower
   steps-length = columns-length lower upper least greatest (g .uppers) (g .leasts) (g .greatests)
 

@@ -1,8 +1,7 @@
 -- Read in this order: `Switch` has steps, plans and their switches, `Support` the plan that is handed out, and `Plans` what is said of all plans.
--- `Columns` says how steps lie in memory, `Solved` what the chart is made from, and `Looked` what one function of the planner gives.
+-- `Columns` says how steps lie in memory, and `Looked` what one function of the planner gives.
 pub mod Columns
 pub mod Looked
 pub mod Plans
-pub mod Solved
 pub mod Support
 pub mod Switch

@@ -13,7 +13,7 @@ ghost use Rattle.switch.specs.Columns.{rankingAt, limits, columns, Colum
 ghost use Rattle.switch.specs.Support.{supportSet, Handed};
 
 // What is on in the step at i, which has a feasible set, where `before` was on.
-pub fn step_set(lower: &[u64], upper: &[u64], i: usize, least: u8, greatest: u8, before: u64) -> u64
+fn step_set(lower: &[u64], upper: &[u64], i: usize, least: u8, greatest: u8, before: u64) -> u64
     requires { ⌜
         (length (now lower) ≡ length (now upper))
         × ((i < length (now lower)) × (hasFeasible (getD (now lower) i 0) (getD (now upper) i 0) least greatest ≡ true))

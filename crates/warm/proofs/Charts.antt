@@ -6,7 +6,7 @@ use mathlib.Core.Bool.{Bool, cond}
 use mathlib.Core.List.{List, _++_, map}
 use Prim.Native.Nat.{ℕ, _≤_, _<_}
 use native.Mathlib.Omega.{arith}
-use lib.ListN.{length, length-map, getD, take, drop}
+use lib.ListN.{length, length-map, length-take, getD, take, drop}
 use Rattle.units.specs.Sets.{bit}
 use Rattle.sheet.specs.declared.Summary.{Summary}
 use Rattle.sheet.specs.Answer.{Given}
@@ -15,13 +15,13 @@ use Rattle.sheet.specs.Reading.{stepsOf}
 use Rattle.sheet.specs.Told.{summaryRead}
 use Rattle.switch.specs.Columns.{columns}
 use Rattle.switch.specs.Plans.{canBe}
-use Rattle.switch.specs.Solved.{Solved}
+use Rattle.chart.specs.Solved.{Solved}
 use Rattle.switch.specs.Switch.{Limits, total}
 use Rattle.switch.proofs.Cells.{cell-count, cell, cell-beyond}
 use Rattle.warm.specs.Entries.{limitsOf, limitsOn, supportOn, written}
 use Rattle.warm.specs.Statements.{SomePlanHas}
 use Rattle.warm.proofs.Decoded.{many-steps, start-is, bound-is, units-are, few-units, columns-are, columns-sound}
-use Rattle.warm.proofs.Plans.{uppers-below}
+use Rattle.warm.proofs.Plans.{plan-length, uppers-below}
 
 module _ (s : List ℕ) where
   -- the units that can be on in each step, or those that can be off
@@ -43,19 +43,22 @@ module _ (s : List ℕ) where
     pub no-others : unitsOf s ≤ u → bit (getD (wordsOf on) i 0) u ≡ 0
     no-others k = cell-beyond (unitsOf s) (boundOf s) (startOf s) (limitsOn s) i u among (uppers-below s e) on k
 
+-- a list that begins with the plan has a place for each step
+pub plan-long : (s : List ℕ) {x : Summary} (e : summaryRead s ≡ Given x) (sets : List ℕ) → take (x .steps) sets ≡ supportOn s → x .steps ≤ length sets
+plan-long s {x} e sets planned = omega (arith, length-take (x .steps) sets, ap length planned, plan-length s, many-steps s e)
+
 -- what the chart is made from, once the plan is made and within the bound
-pub chart-solved : (s : List ℕ) {x : Summary} (e : summaryRead s ≡ Given x) {sets : List ℕ} {many : ℕ}
+pub chart-solved : (s : List ℕ) {x : Summary} (e : summaryRead s ≡ Given x) (sets : List ℕ) {many : ℕ}
     → take (x .steps) sets ≡ supportOn s → many ≡ total (startOf s) (supportOn s) → many ≤ x .bound
     → Solved (map (λ y. y .lower) (stepsOf s)) (map (λ y. y .upper) (stepsOf s)) (map (λ y. y .least) (stepsOf s)) (map (λ y. y .greatest) (stepsOf s))
-    (x .start) (x .units) (x .bound) many sets
+    (x .start) (x .units) (x .bound) many (take (x .steps) sets)
 unfolding supportOn
-chart-solved s {x} e {sets} {many} planned counted within =
-    let long : length (map (λ y. y .lower) (stepsOf s)) ≡ x .steps = length-map (stepsOf s) (λ y. y .lower) ∙ many-steps s e in
+chart-solved s {x} e sets {many} planned counted within =
     record {
       steps = columns-sound s e;
       below = rw (columns-are s e, units-are s e) (uppers-below s e);
       units = few-units s e;
-      planned = rw (columns-are s e, start-is s e) (ap (λ (k : ℕ). take k sets) long ∙ planned);
+      planned = rw (columns-are s e, start-is s e) planned;
       counted = rw (columns-are s e, start-is s e) counted;
       within = within;
     }

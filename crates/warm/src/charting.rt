@@ -2,6 +2,7 @@
 use super::Reply;
 use super::planning::make_plan;
 use super::refused;
+use chart::draw_chart;
 use sheet::ReadAnswer;
 use sheet::Summary;
 use sheet::columns::fill_columns;
@@ -33,16 +34,16 @@ fn draw(sheet: &[u8], x: Summary, sets: &[u64], many: u32, on: &mut [u64], off: 
     let mut greatest = [0u8; 256];
     let n = x.steps as usize;
     fill_columns(sheet, n, &mut lower, &mut upper, &mut least, &mut greatest);
-    switch::chart::chart(
-        &mut lower[0..n],
-        &mut upper[0..n],
+    draw_chart(
+        &lower[0..n],
+        &upper[0..n],
         &least[0..n],
         &greatest[0..n],
         x.start,
         x.units,
         x.bound,
         many,
-        sets,
+        &sets[0..n],
         on,
         off,
     )

@@ -1,0 +1,51 @@
+-- `chart::back::gain_row` meets its contract.
+use Rattle.chart.specs.Backs.{gainRow}
+use borrow.Author.Needs.{needs}
+use Rattle.chart.proofs.back.gain_row.Statement.{statement}
+use Rattle.chart.proofs.back.gain_row.Tie as tie
+
+contains-requires : tie.Need-contains-requires
+contains-requires c κs = search needs
+
+choose-requires : tie.Need-choose-requires
+choose-requires c κs = search needs
+
+contains-requires-2 : tie.Need-contains-requires-2
+contains-requires-2 c κs = search needs
+
+choose-requires-2 : tie.Need-choose-requires-2
+choose-requires-2 c κs = search needs
+
+contains-requires-3 : tie.Need-contains-requires-3
+contains-requires-3 c κs = search needs
+
+intersection-requires : tie.Need-intersection-requires
+intersection-requires c κs = search needs
+
+choose-requires-3 : tie.Need-choose-requires-3
+choose-requires-3 c κs = search needs
+
+union-requires : tie.Need-union-requires
+union-requires c κs = search needs
+
+union-requires-2 : tie.Need-union-requires-2
+union-requires-2 c κs = search needs
+
+returns : tie.Need-returns
+unfolding gainRow
+returns c = cc
+
+pub gain-row-spec : {M : Type 1} → statement M
+gain-row-spec =
+    tie.close
+    (tie.spec
+    contains-requires
+    choose-requires
+    contains-requires-2
+    choose-requires-2
+    contains-requires-3
+    intersection-requires
+    choose-requires-3
+    union-requires
+    union-requires-2
+    returns)

@@ -1,0 +1,166 @@
+-- The tables from which the chart is read. At a step with limits s the plan goes from the set p to the set t. A neighbour of t has one unit more, or one
+-- unit less, or the one in place of the other; row b of a table is the set of the units a of which something holds of t with a in place of b.
+-- Forward, `turned` says which neighbours are reached at no more than the plan's switches so far; backward, `Later` says how the switches still to come from
+-- a neighbour compare with those from t. Laws in proofs/ say that both are exact, and that `onWord` and `offWord`, which join them, are the chart.
+use mathlib.Core.Bool.{Bool, cond, not, _&&_, _||_}
+use mathlib.Core.List.{List, [], _∷_}
+use Prim.Native.Nat.{ℕ, zero, suc, _-_, _^_}
+use lib.Dec.{eqb, ltb}
+use lib.ListN.{getD, drop}
+use Rattle.units.specs.Sets.{union, intersection, difference, contains, insert, size}
+use Rattle.switch.specs.Columns.{bare}
+use Rattle.switch.specs.Switch.{Limits}
+
+-- ---- rows
+
+-- the rows of the units of a set below k, joined
+unfoldable pub gathered : ℕ → ℕ → (ℕ → ℕ) → ℕ
+gathered zero set rows = 0
+gathered (suc k) set rows = union (gathered k set rows) (cond (contains set k) (rows k) 0)
+
+-- the units of a set below k that pass a test
+unfoldable pub passing : ℕ → ℕ → (ℕ → Bool) → ℕ
+passing zero set test = 0
+passing (suc k) set test = let rest = passing k set test in cond (contains set k && test k) (insert rest k) rest
+
+-- the test that two sets have a common unit
+unfoldable pub meets : ℕ → ℕ → Bool
+meets a b = not (eqb (intersection a b) 0)
+
+-- all units that a word has
+abbrev pub all : ℕ
+all = 2 ^ 64 - 1
+
+-- ---- a step of the plan
+
+-- the units that may be on and are not
+unfoldable pub free : Limits → ℕ → ℕ
+free s t = difference (s .upper) t
+
+-- the units that are on and need not be
+unfoldable pub held : Limits → ℕ → ℕ
+held s t = difference t (s .lower)
+
+-- the units that are switched on
+unfoldable pub new : ℕ → ℕ → ℕ
+new p t = difference t p
+
+-- the step allows one unit more, or one less
+unfoldable pub more : Limits → ℕ → Bool
+more s t = ltb (size t) (s .greatest)
+
+unfoldable pub less : Limits → ℕ → Bool
+less s t = ltb (s .least) (size t)
+
+-- ---- forward
+
+-- The units that can be on before the step, in place of none that is on in it, at no more switches: those that are, and those that can be in place of a
+-- unit that leaves. Here `h` has the units held in the step before, and f their rows.
+unfoldable pub come : ℕ → ℕ → ℕ → (ℕ → ℕ) → ℕ
+come p t h f = union p (gathered 64 (difference h t) f)
+
+-- the row of a unit that is held, if it was held before, or an empty one
+unfoldable pub rowBefore : ℕ → (ℕ → ℕ) → ℕ → ℕ
+rowBefore h f b = cond (contains h b) (f b) 0
+
+-- the units that can be on after the step in place of b, which is held, at no more switches
+unfoldable pub turned : Limits → ℕ → ℕ → ℕ → (ℕ → ℕ) → ℕ → ℕ
+turned s p t h f b =
+    let row = rowBefore h f b in
+    cond (contains p b && not (meets row (new p t))) (intersection (free s t) (union (come p t h f) row)) (free s t)
+
+-- the set of the plan after i steps
+unfoldable pub setAt : ℕ → List ℕ → ℕ → ℕ
+setAt start plan i = getD (start ∷ plan) i 0
+
+-- the step at i
+unfoldable pub stepAt : List Limits → ℕ → Limits
+stepAt ss i = getD ss i (bare 0 0)
+
+-- the units held after i steps, and their rows
+unfoldable pub heldAt : List Limits → List ℕ → ℕ → ℕ
+heldAt ss plan zero = 0
+heldAt ss plan (suc i) = held (stepAt ss i) (getD plan i 0)
+
+unfoldable pub rowsAt : ℕ → List Limits → List ℕ → ℕ → ℕ → ℕ
+rowsAt start ss plan zero = λ b. 0
+rowsAt start ss plan (suc i) =
+    turned (stepAt ss i) (setAt start plan i) (setAt start plan (suc i)) (heldAt ss plan i) (rowsAt start ss plan i)
+
+-- ---- backward
+
+-- The switches still to come from a neighbour of t, against those from t: the units a with which there is one less, the units b without which there
+-- are no more, and the rows of units a in place of b with which there are no more, or one less.
+pub record Later : Type 0 where
+  pub saves : ℕ
+  pub spared : ℕ
+  pub even : ℕ → ℕ
+  pub gain : ℕ → ℕ
+
+-- after the last step there are none to come
+unfoldable pub ended : Later
+ended = record { saves = 0; spared = all; even = λ b. all; gain = λ b. 0 }
+
+module _ (s : Limits) (p t : ℕ) (w : Later) where
+  unfoldable pub savesBefore : ℕ
+  savesBefore =
+      union (new p t)
+      (intersection (free s t)
+      (union (cond (more s t) (w .saves) 0) (union (gathered 64 (difference (held s t) p) (w .even)) (gathered 64 (held s t) (w .gain)))))
+
+  unfoldable pub sparedBefore : ℕ
+  sparedBefore =
+      union (difference p t)
+      (passing 64 (held s t)
+      (λ b. (less s t && contains (w .spared) b) || (meets (w .even b) (intersection (free s t) p) || meets (w .gain b) (free s t))))
+
+  unfoldable pub evenBefore : ℕ → ℕ
+  evenBefore b =
+      union savesBefore (union (cond (contains sparedBefore b) all 0) (cond (contains (held s t) b) (intersection (w .even b) (free s t)) 0))
+
+  unfoldable pub gainBefore : ℕ → ℕ
+  gainBefore b =
+      union (cond (contains t b) 0 savesBefore)
+      (union (cond (contains sparedBefore b) (new p t) 0) (cond (contains (held s t) b) (intersection (w .gain b) (free s t)) 0))
+
+  -- the same of the neighbours of p, before the step
+  unfoldable pub stepped : Later
+  stepped = record { saves = savesBefore; spared = sparedBefore; even = evenBefore; gain = gainBefore }
+
+-- from the set p on, over the rest of the steps and of the plan
+unfoldable pub laterFrom : ℕ → List Limits → List ℕ → Later
+laterFrom p [] ts = ended
+laterFrom p (s ∷ ss) [] = ended
+laterFrom p (s ∷ ss) (t ∷ ts) = stepped s p t (laterFrom t ss ts)
+
+-- ---- the chart
+
+-- the units that can be on in place of b, which is held, with no switch to spare, or with one
+unfoldable pub inPlace : Bool → (ℕ → ℕ) → Later → ℕ → ℕ
+inPlace tight turns w b = cond tight (union (intersection (turns b) (w .even b)) (w .gain b)) (union (turns b) (w .even b))
+
+-- the units that can be on, and those of the units `us` that can be off, with no switch to spare, or with one
+unfoldable pub onWord : Bool → Limits → ℕ → (ℕ → ℕ) → Later → ℕ
+onWord tight s t turns w =
+    union t
+    (intersection (free s t) (union (cond (more s t) (cond tight (w .saves) all) 0) (gathered 64 (held s t) (inPlace tight turns w))))
+
+unfoldable pub offWord : Bool → ℕ → Limits → ℕ → (ℕ → ℕ) → Later → ℕ
+offWord tight us s t turns w =
+    union (difference us t)
+    (passing 64 (held s t) (λ b. (less s t && (not tight || contains (w .spared) b)) || meets (inPlace tight turns w b) (free s t)))
+
+-- ---- at each step
+
+-- what is still to come after i steps
+unfoldable pub laterAt : ℕ → List Limits → List ℕ → ℕ → Later
+laterAt start ss plan i = laterFrom (setAt start plan i) (drop i ss) (drop i plan)
+
+-- the units that can be on in the step at i, and those of `us` that can be off
+unfoldable pub onAt : Bool → ℕ → List Limits → List ℕ → ℕ → ℕ
+onAt tight start ss plan i =
+    onWord tight (stepAt ss i) (setAt start plan (suc i)) (rowsAt start ss plan (suc i)) (laterAt start ss plan (suc i))
+
+unfoldable pub offAt : Bool → ℕ → ℕ → List Limits → List ℕ → ℕ → ℕ
+offAt tight us start ss plan i =
+    offWord tight us (stepAt ss i) (setAt start plan (suc i)) (rowsAt start ss plan (suc i)) (laterAt start ss plan (suc i))
