@@ -4,9 +4,11 @@ use super::handed::has_total;
 use super::handed::is_left;
 use super::handed::is_over_bound;
 use super::plans::Plan;
-use super::plans::meets;
+use super::plans::after;
+use super::plans::last_fault;
 use super::plans::plan_at;
 use super::plans::plans_of;
+use super::plans::total_of;
 use super::small::Small;
 use super::small::all_units;
 use trials::tally::Tally;
@@ -21,7 +23,7 @@ struct Cells {
 // The cells with a plan that meets the sheet.
 fn with_plan(cells: Cells, sheet: Small, plan: &Plan) -> Cells {
     let all = all_units(sheet.units);
-    let steps = sheet.steps % 6;
+    let steps = sheet.steps % 7;
     let mut on = cells.on;
     let mut off = cells.off;
     let mut k = 0;
@@ -44,10 +46,11 @@ fn cells_of(sheet: Small, bound: usize) -> Cells {
     let mut p = 0;
     while p < plans {
         let plan = plan_at(sheet, p);
-        if meets(sheet, bound, &plan) {
+        let fault = last_fault(sheet, &plan);
+        if fault == 0 && total_of(sheet, &plan) <= bound {
             cells = with_plan(cells, sheet, &plan);
         }
-        p += 1;
+        p = after(sheet.units, p, fault);
     }
     cells
 }
@@ -87,7 +90,7 @@ fn compare(sheet: Small, on: &Plan, off: &Plan, cells: Cells) -> Tally {
     let listed_on = cells.on;
     let listed_off = cells.off;
     let units = sheet.units;
-    let steps = sheet.steps % 6;
+    let steps = sheet.steps % 7;
     let mut tally = Tally::none();
     let mut k = 0;
     while k < steps {

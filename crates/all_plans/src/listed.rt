@@ -1,5 +1,7 @@
 // What a listing of all plans of a small sheet finds.
-use super::plans::is_feasible;
+use super::plans::Plan;
+use super::plans::after;
+use super::plans::last_fault;
 use super::plans::plan_at;
 use super::plans::plans_of;
 use super::plans::total_of;
@@ -15,17 +17,16 @@ pub struct Listed {
     pub fewest: usize,
 }
 
-// The listing with plan p. The count comes nowhere near to where it would wrap.
-fn with_plan(listed: Listed, sheet: Small, p: usize) -> Listed
+// The listing with a plan, whose last fault is given. The count comes nowhere near to where it would wrap.
+fn with_plan(listed: Listed, sheet: Small, plan: &Plan, fault: usize) -> Listed
     requires { ⌜ listed .fewest ≤ 100 ⌝ }
     ensures { λ r. ⌜ r .fewest ≤ 100 ⌝ }
 {
-    let plan = plan_at(sheet, p);
-    if !is_feasible(sheet, &plan) {
+    if 0 < fault {
         return listed;
     }
     let plans = std::num::wrapping_add_usize(listed.plans, 1);
-    let total = total_of(sheet, &plan);
+    let total = total_of(sheet, plan);
     if total < listed.fewest {
         return Listed {
             plans,
@@ -38,7 +39,7 @@ fn with_plan(listed: Listed, sheet: Small, p: usize) -> Listed
     }
 }
 
-// Lists all plans.
+// Lists all feasible plans.
 pub fn list(sheet: Small) -> Listed
     ensures { λ r. ⌜ r .fewest ≤ 100 ⌝ }
 {
@@ -49,8 +50,10 @@ pub fn list(sheet: Small) -> Listed
     };
     let mut p = 0;
     while p < plans {
-        listed = with_plan(listed, sheet, p);
-        p += 1;
+        let plan = plan_at(sheet, p);
+        let fault = last_fault(sheet, &plan);
+        listed = with_plan(listed, sheet, &plan, fault);
+        p = after(sheet.units, p, fault);
     }
     listed
 }

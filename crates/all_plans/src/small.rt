@@ -1,4 +1,4 @@
-// The small sheets: 1 to 4 units and at most 5 steps. The limits of their steps are drawn from the number of the case.
+// The small sheets: 1 to 4 units and at most 6 steps. The limits of their steps are drawn from the number of the case.
 use trials::draws;
 use trials::layout::Head;
 use trials::layout::Limits;
@@ -8,12 +8,13 @@ use trials::layout::put_limits;
 use trials::layout::put_link;
 ghost use Prim.Native.Nat.{_≤_, _<_};
 
-// A small sheet but for its bound.
+// A small sheet but for its bound, and whether its case is large.
 pub struct Small {
+    pub large: bool,
     pub units: usize,
     pub steps: usize,
     pub start: u64,
-    pub limits: [Limits; 5],
+    pub limits: [Limits; 6],
 }
 
 // What the numbers of a small sheet are drawn for.
@@ -25,17 +26,29 @@ const LEAST: usize = 14;
 
 const GREATEST: usize = 16;
 
+// The cases before this one are of every size, and those from it on are large: 3 or 4 units, and 4 to 6 steps.
+const LARGE: usize = 480;
+
 // The number of units, each as often as the others.
 pub fn units_of(case: usize) -> usize
     ensures { λ r. ⌜ (0 < r) × (r ≤ 4) ⌝ }
 {
+    if LARGE <= case {
+        return 3 + case % 2;
+    }
     1 + case % 4
 }
 
-// The number of steps: 0 to 4, and 5 where there are few units.
+// The number of steps: in a large case 4 or 5, or up to 6 where there are 3 units, else 0 to 4, and 5 where there are few units.
 fn steps_of(case: usize) -> usize
-    ensures { λ r. ⌜ r ≤ 5 ⌝ }
+    ensures { λ r. ⌜ r ≤ 6 ⌝ }
 {
+    if LARGE <= case {
+        if units_of(case) == 3 {
+            return 4 + case / 2 % 3;
+        }
+        return 4 + case / 2 % 2;
+    }
     if units_of(case) <= 2 {
         return case / 4 % 6;
     }
@@ -106,7 +119,7 @@ fn limits_of(units: u64, case: usize, k: usize) -> Limits {
 }
 
 // The limits of all steps.
-fn all_limits(case: usize) -> [Limits; 5] {
+fn all_limits(case: usize) -> [Limits; 6] {
     let units = all_units(units_of(case));
     [
         limits_of(units, case, 1),
@@ -114,6 +127,7 @@ fn all_limits(case: usize) -> [Limits; 5] {
         limits_of(units, case, 3),
         limits_of(units, case, 4),
         limits_of(units, case, 5),
+        limits_of(units, case, 6),
     ]
 }
 
@@ -122,6 +136,7 @@ impl Small {
     pub fn of(case: usize, start: u64) -> Small {
         let limits = all_limits(case);
         Small {
+            large: LARGE <= case,
             units: units_of(case),
             steps: steps_of(case),
             start,
@@ -133,6 +148,7 @@ impl Small {
     pub fn with_unit(self) -> Small {
         let limits = self.limits;
         Small {
+            large: self.large,
             units: self.units % 4 + 1,
             steps: self.steps,
             start: self.start,
@@ -144,7 +160,7 @@ impl Small {
 // Puts the steps, in the order of the records. The remainder is the number itself, here and where it comes again: it shows the bound.
 fn put_steps(sheet: Small, bytes: &mut Space) {
     let limits = sheet.limits;
-    let steps = sheet.steps % 6;
+    let steps = sheet.steps % 7;
     let mut k = 0;
     while k < steps {
         put_limits(bytes, k + 1, limits[k]);
@@ -160,7 +176,7 @@ pub fn put_sheet(sheet: Small, bound: usize, bytes: &mut Space) {
         bytes,
         Head {
             units: sheet.units % 5,
-            records: sheet.steps % 6,
+            records: sheet.steps % 7,
             bound: bound % 65536,
             start: sheet.start,
         },

@@ -24,7 +24,7 @@ fn try_plan(sheet: Small, bytes: &[u8], bound: usize, p: usize) -> Tally {
             return Tally::none();
         }
     }
-    let steps = sheet.steps % 6;
+    let steps = sheet.steps % 7;
     let reply = warm_verdict(bytes, &plan[0..steps]);
     Tally::of(
         reply.refusal == 0
@@ -68,7 +68,7 @@ fn try_length(sheet: Small, bytes: &[u8], words: usize) -> Tally {
 
 // Tries the verdict on a plan that is a word too long, and one that is a word too short.
 pub fn try_lengths(sheet: Small, bytes: &[u8]) -> Tally {
-    let steps = sheet.steps % 6;
+    let steps = sheet.steps % 7;
     let longer = try_length(sheet, bytes, steps + 1);
     if steps == 0 {
         return longer;

@@ -5,13 +5,16 @@ use Rattle.all_plans.proofs.try_bounds.Statement.{statement}
 use Rattle.all_plans.proofs.try_bounds.Tie as tie
 
 abbrev Inv-loop : tie.InvT-loop
-Inv-loop kind sheet fewest tally₀ after₀ tally after = (fewest ≤ 100) × (after ≤ fewest + 4)
+Inv-loop sheet fewest tallies₀ after₀ tallies after = (fewest ≤ 100) × (after ≤ fewest + 4)
 
 abbrev μ-loop : tie.MeasureT-loop
-μ-loop kind sheet fewest tally₀ after₀ tally after = fewest + 4 - after
+μ-loop sheet fewest tallies₀ after₀ tallies after = fewest + 4 - after
 
-none-requires : tie.Need-none-requires Inv-loop μ-loop
-none-requires c κs = search needs
+list-requires : tie.Need-list-requires Inv-loop μ-loop
+list-requires c κs = search needs
+
+of-requires : tie.Need-of-requires Inv-loop μ-loop
+of-requires c κs = search needs
 
 loop-holds : tie.Need-loop-holds Inv-loop μ-loop
 loop-holds c = search needs
@@ -46,7 +49,8 @@ try-bounds-spec =
     (tie.spec
     Inv-loop
     μ-loop
-    none-requires
+    list-requires
+    of-requires
     loop-holds
     add-loop
     sub-try-bound

@@ -5,10 +5,10 @@ use Rattle.all_plans.proofs.try_case.Statement.{statement}
 use Rattle.all_plans.proofs.try_case.Tie as tie
 
 abbrev Inv-loop : tie.InvT-loop
-Inv-loop kind case sets tally₀ start₀ tally start = (start ≤ sets) × (sets ≤ 16)
+Inv-loop case sets tallies₀ start₀ tallies start = (start ≤ sets) × (sets ≤ 16)
 
 abbrev μ-loop : tie.MeasureT-loop
-μ-loop kind case sets tally₀ start₀ tally start = sets - start
+μ-loop case sets tallies₀ start₀ tallies start = sets - start
 
 units-of-requires : tie.Need-units-of-requires Inv-loop μ-loop
 units-of-requires c κs = search needs
@@ -16,17 +16,17 @@ units-of-requires c κs = search needs
 sets-of-requires : tie.Need-sets-of-requires Inv-loop μ-loop
 sets-of-requires c κs = search needs
 
-none-requires : tie.Need-none-requires Inv-loop μ-loop
-none-requires c κs = search needs
+of-requires : tie.Need-of-requires Inv-loop μ-loop
+of-requires c κs = search needs
 
 loop-holds : tie.Need-loop-holds Inv-loop μ-loop
 loop-holds c = search needs
 
-of-requires : tie.Need-of-requires Inv-loop μ-loop
-of-requires c κs = search needs
+of-requires-2 : tie.Need-of-requires-2 Inv-loop μ-loop
+of-requires-2 c κs = search needs
 
-try-listed-requires : tie.Need-try-listed-requires Inv-loop μ-loop
-try-listed-requires c κs = search needs
+try-bounds-requires : tie.Need-try-bounds-requires Inv-loop μ-loop
+try-bounds-requires c κs = search needs
 
 plus-requires : tie.Need-plus-requires Inv-loop μ-loop
 plus-requires c κs = search needs
@@ -51,10 +51,10 @@ try-case-spec =
     μ-loop
     units-of-requires
     sets-of-requires
-    none-requires
-    loop-holds
     of-requires
-    try-listed-requires
+    loop-holds
+    of-requires-2
+    try-bounds-requires
     plus-requires
     add-start
     loop-less

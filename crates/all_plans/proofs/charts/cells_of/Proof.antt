@@ -1,11 +1,11 @@
--- `listing::charts::cells_of` is safe and ends: p counts up to the number of plans.
-use Prim.Native.Nat.{_≤_, _-_}
+-- `listing::charts::cells_of` is safe and ends: p goes up to the number of plans.
+use Prim.Native.Nat.{_<_, _-_}
 use borrow.Author.Needs.{needs}
 use Rattle.all_plans.proofs.charts.cells_of.Statement.{statement}
 use Rattle.all_plans.proofs.charts.cells_of.Tie as tie
 
 abbrev Inv-loop : tie.InvT-loop
-Inv-loop sheet bound plans cells₀ p₀ cells p = p ≤ plans
+Inv-loop sheet bound plans cells₀ p₀ cells p = plans < 33554432
 
 abbrev μ-loop : tie.MeasureT-loop
 μ-loop sheet bound plans cells₀ p₀ cells p = plans - p
@@ -19,14 +19,17 @@ loop-holds c = search needs
 plan-at-requires : tie.Need-plan-at-requires Inv-loop μ-loop
 plan-at-requires c κs = search needs
 
-meets-requires : tie.Need-meets-requires Inv-loop μ-loop
-meets-requires c κs = search needs
+last-fault-requires : tie.Need-last-fault-requires Inv-loop μ-loop
+last-fault-requires c κs = search needs
+
+total-of-requires : tie.Need-total-of-requires Inv-loop μ-loop
+total-of-requires c κs = search needs
 
 with-plan-requires : tie.Need-with-plan-requires Inv-loop μ-loop
 with-plan-requires c κs = search needs
 
-add-p : tie.Need-add-p Inv-loop μ-loop
-add-p c = search needs
+after-requires : tie.Need-after-requires Inv-loop μ-loop
+after-requires c κs = search needs
 
 loop-less : tie.Need-loop-less Inv-loop μ-loop
 loop-less c = search needs
@@ -46,9 +49,10 @@ cells-of-spec =
     plans-of-requires
     loop-holds
     plan-at-requires
-    meets-requires
+    last-fault-requires
+    total-of-requires
     with-plan-requires
-    add-p
+    after-requires
     loop-less
     loop-again
     returns)

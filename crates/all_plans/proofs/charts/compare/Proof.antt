@@ -5,7 +5,7 @@ use Rattle.all_plans.proofs.charts.compare.Statement.{statement}
 use Rattle.all_plans.proofs.charts.compare.Tie as tie
 
 abbrev Inv-loop : tie.InvT-loop
-Inv-loop on off listed-on listed-off units steps tally₀ k₀ tally k = (k ≤ steps) × (steps ≤ 5)
+Inv-loop on off listed-on listed-off units steps tally₀ k₀ tally k = (k ≤ steps) × (steps ≤ 6)
 
 abbrev μ-loop : tie.MeasureT-loop
 μ-loop on off listed-on listed-off units steps tally₀ k₀ tally k = steps - k

@@ -5,7 +5,7 @@ use Rattle.all_plans.proofs.charts.with_plan.Statement.{statement}
 use Rattle.all_plans.proofs.charts.with_plan.Tie as tie
 
 abbrev Inv-loop : tie.InvT-loop
-Inv-loop plan all steps on₀ off₀ k₀ on off k = (k ≤ steps) × (steps ≤ 5)
+Inv-loop plan all steps on₀ off₀ k₀ on off k = (k ≤ steps) × (steps ≤ 6)
 
 abbrev μ-loop : tie.MeasureT-loop
 μ-loop plan all steps on₀ off₀ k₀ on off k = steps - k

@@ -1,11 +1,11 @@
--- `listing::listed::list` meets its contract, and p counts up to the number of plans.
-use Prim.Native.Nat.{_≤_, _-_}
+-- `listing::listed::list` meets its contract, and p goes up to the number of plans.
+use Prim.Native.Nat.{_≤_, _<_, _-_}
 use borrow.Author.Needs.{needs}
 use Rattle.all_plans.proofs.listed.list.Statement.{statement}
 use Rattle.all_plans.proofs.listed.list.Tie as tie
 
 abbrev Inv-loop : tie.InvT-loop
-Inv-loop sheet plans listed₀ p₀ listed p = (p ≤ plans) × (listed .fewest ≤ 100)
+Inv-loop sheet plans listed₀ p₀ listed p = (plans < 33554432) × (listed .fewest ≤ 100)
 
 abbrev μ-loop : tie.MeasureT-loop
 μ-loop sheet plans listed₀ p₀ listed p = plans - p
@@ -16,11 +16,17 @@ plans-of-requires c κs = search needs
 loop-holds : tie.Need-loop-holds Inv-loop μ-loop
 loop-holds c = search needs
 
+plan-at-requires : tie.Need-plan-at-requires Inv-loop μ-loop
+plan-at-requires c κs = search needs
+
+last-fault-requires : tie.Need-last-fault-requires Inv-loop μ-loop
+last-fault-requires c κs = search needs
+
 with-plan-requires : tie.Need-with-plan-requires Inv-loop μ-loop
 with-plan-requires c κs = search needs
 
-add-p : tie.Need-add-p Inv-loop μ-loop
-add-p c = search needs
+after-requires : tie.Need-after-requires Inv-loop μ-loop
+after-requires c κs = search needs
 
 loop-less : tie.Need-loop-less Inv-loop μ-loop
 loop-less c = search needs
@@ -39,8 +45,10 @@ list-spec =
     μ-loop
     plans-of-requires
     loop-holds
+    plan-at-requires
+    last-fault-requires
     with-plan-requires
-    add-p
+    after-requires
     loop-less
     loop-again
     returns)

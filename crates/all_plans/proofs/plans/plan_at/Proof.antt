@@ -1,14 +1,14 @@
--- `listing::plans::plan_at` is safe and ends: k counts up to 5.
+-- `listing::plans::plan_at` is safe and ends: k counts up to 6.
 use Prim.Native.Nat.{_≤_, _-_}
 use borrow.Author.Needs.{needs}
 use Rattle.all_plans.proofs.plans.plan_at.Statement.{statement}
 use Rattle.all_plans.proofs.plans.plan_at.Tie as tie
 
 abbrev Inv-loop : tie.InvT-loop
-Inv-loop sheet p plan₀ k₀ plan k = k ≤ 5
+Inv-loop sheet p plan₀ k₀ plan k = k ≤ 6
 
 abbrev μ-loop : tie.MeasureT-loop
-μ-loop sheet p plan₀ k₀ plan k = 5 - k
+μ-loop sheet p plan₀ k₀ plan k = 6 - k
 
 loop-holds : tie.Need-loop-holds Inv-loop μ-loop
 loop-holds c = search needs

@@ -5,7 +5,7 @@ use Rattle.all_plans.proofs.plans.total_of.Statement.{statement}
 use Rattle.all_plans.proofs.plans.total_of.Tie as tie
 
 abbrev Inv-loop : tie.InvT-loop
-Inv-loop plan steps before₀ total₀ k₀ before total k = (k ≤ steps) × (steps ≤ 5) × (total ≤ 4 * k)
+Inv-loop plan steps before₀ total₀ k₀ before total k = (k ≤ steps) × (steps ≤ 6) × (total ≤ 4 * k)
 
 abbrev μ-loop : tie.MeasureT-loop
 μ-loop plan steps before₀ total₀ k₀ before total k = steps - k

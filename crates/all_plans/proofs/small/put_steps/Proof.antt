@@ -5,7 +5,7 @@ use Rattle.all_plans.proofs.small.put_steps.Statement.{statement}
 use Rattle.all_plans.proofs.small.put_steps.Tie as tie
 
 abbrev Inv-loop : tie.InvT-loop
-Inv-loop bytes₀ limits steps k₀ bytes k = (k ≤ steps) × (steps ≤ 5)
+Inv-loop bytes₀ limits steps k₀ bytes k = (k ≤ steps) × (steps ≤ 6)
 
 abbrev μ-loop : tie.MeasureT-loop
 μ-loop bytes₀ limits steps k₀ bytes k = steps - k

@@ -1,17 +1,17 @@
--- `listing::try_kind` is safe and ends: case counts up to 480.
+-- `listing::try_cases` is safe and ends: case counts up to the number of cases.
 use Prim.Native.Nat.{_≤_, _-_}
 use borrow.Author.Needs.{needs}
-use Rattle.all_plans.proofs.try_kind.Statement.{statement}
-use Rattle.all_plans.proofs.try_kind.Tie as tie
+use Rattle.all_plans.proofs.try_cases.Statement.{statement}
+use Rattle.all_plans.proofs.try_cases.Tie as tie
 
 abbrev Inv-loop : tie.InvT-loop
-Inv-loop kind tally₀ case₀ tally case = case ≤ 480
+Inv-loop tallies₀ case₀ tallies case = case ≤ 3480
 
 abbrev μ-loop : tie.MeasureT-loop
-μ-loop kind tally₀ case₀ tally case = 480 - case
+μ-loop tallies₀ case₀ tallies case = 3480 - case
 
-none-requires : tie.Need-none-requires Inv-loop μ-loop
-none-requires c κs = search needs
+of-requires : tie.Need-of-requires Inv-loop μ-loop
+of-requires c κs = search needs
 
 loop-holds : tie.Need-loop-holds Inv-loop μ-loop
 loop-holds c = search needs
@@ -34,13 +34,13 @@ loop-again c = search needs
 returns : tie.Need-returns Inv-loop μ-loop
 returns c = search needs
 
-pub try-kind-spec : {M : Type 1} → statement M
-try-kind-spec =
+pub try-cases-spec : {M : Type 1} → statement M
+try-cases-spec =
     tie.close
     (tie.spec
     Inv-loop
     μ-loop
-    none-requires
+    of-requires
     loop-holds
     try-case-requires
     plus-requires
