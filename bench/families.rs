@@ -27,6 +27,7 @@ pub enum Family {
     LongGaps,
     TwoNumbers,
     Extremes,
+    NearlyAll,
     Random,
     OneTouched,
     AnySet,
@@ -37,12 +38,13 @@ fn all_units(d: u32) -> u64 {
 }
 
 impl Family {
-    pub const ALL: [Family; 8] = [
+    pub const ALL: [Family; 9] = [
         Family::OneAsked,
         Family::ManyAndFew,
         Family::LongGaps,
         Family::TwoNumbers,
         Family::Extremes,
+        Family::NearlyAll,
         Family::Random,
         Family::OneTouched,
         Family::AnySet,
@@ -55,6 +57,7 @@ impl Family {
             Family::LongGaps => "long gaps".into(),
             Family::TwoNumbers => format!("{} and {} on", d / 2 - 1, d / 2 + 1),
             Family::Extremes => format!("1 and {} on", d - 1),
+            Family::NearlyAll => format!("{} and {} on", d - 2, d - 1),
             Family::Random => "random".into(),
             Family::OneTouched => "one unit touched".into(),
             Family::AnySet => "any set".into(),
@@ -87,9 +90,14 @@ impl Family {
                 let many = if odd { d / 2 - 1 } else { d / 2 + 1 };
                 any(many, many)
             }
-            // one on and all but one on, in turns, and nothing else is asked: the most work for the chart
+            // one on and all but one on, in turns, and nothing else is asked: each choice also takes many units
             Family::Extremes => {
                 let many = if odd { 1 } else { d - 1 };
+                any(many, many)
+            }
+            // all but two and all but one on, in turns, and nothing else is asked: nearly all units have rows in each step, the most work for the chart
+            Family::NearlyAll => {
+                let many = if odd { d - 2 } else { d - 1 };
                 any(many, many)
             }
             // random sets and numbers
@@ -113,7 +121,7 @@ impl Family {
         }
     }
 
-    // A sheet with a chain that goes through the records in a scrambled order, where n is a power of two.
+    // A sheet with a chain that goes through the records in a scrambled order, where n and 77 have no common divisor.
     pub fn sheet(self, n: usize, d: u32, random: &mut Random) -> Vec<u8> {
         let steps: Vec<Step> = (0..n).map(|i| self.step(random, i, n, d)).collect();
         write_sheet(&steps, d, |i| 1 + i * 77 % n)

@@ -49,7 +49,7 @@ fn has_unit_from(set: u64, d: u32) -> bool {
     d < 64 && set >> d != 0
 }
 
-pub fn has_feasible(lower: u64, upper: u64, least: u8, greatest: u8) -> bool {
+fn has_feasible(lower: u64, upper: u64, least: u8, greatest: u8) -> bool {
     lower & !upper == 0 && least <= greatest && lower.count_ones() <= greatest as u32 && least as u32 <= upper.count_ones()
 }
 
@@ -181,7 +181,7 @@ fn by_rank(lower: &[u64], upper: &[u64], set: u64, k: u32, last: bool) -> u64 {
 }
 
 // What is on in the first of the given steps, where `before` was on.
-pub fn step_set(lower: &[u64], upper: &[u64], least: u8, greatest: u8, before: u64) -> u64 {
+fn step_set(lower: &[u64], upper: &[u64], least: u8, greatest: u8, before: u64) -> u64 {
     let (must, may) = (lower[0], upper[0]);
     let begun = before & may | must;
     let (many, fewest, most) = (begun.count_ones(), least as u32, greatest as u32);
@@ -261,12 +261,12 @@ fn chart_reply(sheet: &[u8], on: &mut [u64], off: &mut [u64]) -> Result<Reply, R
         return Err(Refusal(8, x.n as u32));
     }
     let mut sets = [0; STEPS];
-    let mut c = columns(sheet, x.n);
+    let c = columns(sheet, x.n);
     let total = make_plan(&c, &x, &mut sets);
     if total > x.bound {
         return Err(Refusal(9, total));
     }
-    plain_chart::chart(&mut c, &x, total, &sets, on, off);
+    plain_chart::chart(&c, &x, total, &sets, on, off);
     Ok(Reply { total, ..Default::default() })
 }
 

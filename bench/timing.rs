@@ -4,13 +4,6 @@ use crate::task::{call_library, call_painted, call_plain, Caller, Entry, Outputs
 use std::hint::black_box;
 use std::time::Instant;
 
-// What one first call of the library and of plain Rust took, in seconds.
-#[derive(Clone, Copy)]
-pub struct First {
-    library: f64,
-    plain: f64,
-}
-
 // Microseconds per call.
 #[derive(Clone, Copy)]
 pub struct Times {
@@ -37,11 +30,10 @@ impl Checker {
     }
 
     // Stops the program if the library and plain Rust differ in their reply or in any lent memory.
-    pub fn compare(&mut self, what: &str, task: &Task) -> First {
+    pub fn compare(&mut self, what: &str, task: &Task) {
         let (mut ours, mut theirs) = (Outputs::new(), Outputs::new());
-        let mut depth = 0;
-        let library = seconds(|| depth = call_painted(task, &mut ours, &mut self.painted));
-        let plain = seconds(|| call_plain(task, &mut theirs));
+        let depth = call_painted(task, &mut ours, &mut self.painted);
+        call_plain(task, &mut theirs);
         if ours != theirs {
             eprintln!("bench: {} differs from plain Rust on {what}\nsheet {:02x?}", task.entry.name(), task.sheet);
             std::process::exit(1);
@@ -49,7 +41,6 @@ impl Checker {
         let deepest = &mut self.deepest[task.entry as usize];
         *deepest = depth.max(*deepest);
         self.calls += 1;
-        First { library, plain }
     }
 }
 
@@ -67,9 +58,8 @@ fn median(times: &mut [f64]) -> f64 {
     (times[low] + times[high]) / 2.0
 }
 
-// The shortest batch, and the shortest call that counts as long, in seconds; the fewest and the most batches of a shorter call.
+// The shortest batch, in seconds; the fewest and the most batches of a call.
 const BATCH: f64 = 50e-6;
-const LONG: f64 = 0.1;
 const ROUNDS: (f64, f64) = (3.0, 401.0);
 
 // Microseconds per call: the median of batches of seconds per call.
@@ -104,24 +94,9 @@ fn in_turns(callers: [Caller; 2], task: &Task, budget: f64) -> Times {
     told(times)
 }
 
-// Times of a long call: that of the comparison, and that of a second call if both sides take less than two seconds together.
-fn long_times(task: &Task, first: First) -> Times {
-    let mut times = [vec![first.library], vec![first.plain]];
-    if first.library + first.plain < 2.0 {
-        let mut out = Outputs::new();
-        times[0].push(batch(call_library, task, &mut out, 1));
-        times[1].push(batch(call_plain, task, &mut out, 1));
-    }
-    told(times)
-}
-
-// Times of the library and of plain Rust; `budget` seconds are for short calls.
-pub fn measure(task: &Task, first: First, budget: f64) -> Times {
-    if first.library + first.plain < 2.0 * LONG {
-        in_turns([call_library, call_plain], task, budget)
-    } else {
-        long_times(task, first)
-    }
+// Times of the library and of plain Rust, for about so many seconds.
+pub fn measure(task: &Task, budget: f64) -> Times {
+    in_turns([call_library, call_plain], task, budget)
 }
 
 fn call_cleared(task: &Task, out: &mut Outputs) {

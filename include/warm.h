@@ -41,7 +41,7 @@
  *
  * No call allocates, blocks, prints or keeps state: threads may call at will. Buffers are aligned for their type and do not overlap. A pointer
  * may be NULL where its length is 0. The archive is for x86-64 and the calling convention of Linux (System V), built for any such processor, and
- * needs memcpy and memset of its host, and at most 8,192 bytes of stack.
+ * needs memcpy and memset of its host, and at most 32,768 bytes of stack.
  */
 #ifndef WARM_H
 #define WARM_H
@@ -106,7 +106,8 @@ warm_reply warm_plan(const uint8_t *sheet, size_t sheet_len, uint64_t *plan, siz
  * For each step the units that can be on and those that can be off, over all allowed plans whose total is at most the bound, into the first places
  * of two outputs, one word for each step. A unit can be in both words; one that the sheet has not is in neither. Places after them are left as
  * they are, and so are both outputs on a refusal. Outputs of WARM_STEPS places are always enough. The total is that of warm_plan.
- * Takes at most the time of d * n + 1 plans, for d units and n steps. Uses at most 8,192 bytes of stack.
+ * Takes the time of a plan, and beyond that a time linear in n * d, for n steps and d units: in all less than a millisecond for the largest sheets.
+ * Uses at most 32,768 bytes of stack.
  */
 warm_reply warm_chart(const uint8_t *sheet, size_t sheet_len, uint64_t *on, size_t on_len, uint64_t *off, size_t off_len);
 

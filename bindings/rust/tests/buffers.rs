@@ -95,7 +95,7 @@ fn threads() {
     let mut random = Random::new(42);
     let sheets: Vec<Vec<u8>> = (0..200)
         .map(|i| {
-            let mut campaign = draw(Family::ALL[i % 7], 1 + i % 12, i % 20, &mut random);
+            let mut campaign = draw(Family::ALL[i % 8], 1 + i % 12, i % 20, &mut random);
             campaign.bound = (i % 40) as u16;
             campaign.scattered(i % 5, &mut random)
         })

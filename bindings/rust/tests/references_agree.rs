@@ -1,5 +1,5 @@
-//! The parts of the reference against each other: all sets, the flow and FindSupport give the same fewest warm-ups, and all sets and the
-//! flow the same chart. The library is not called.
+//! The parts of the reference against each other: all sets, the flow and FindSupport give the same fewest warm-ups, and all sets, the flow
+//! and forced runs the same chart. The library is not called.
 
 mod common;
 mod reference;
@@ -7,8 +7,7 @@ mod reference;
 use common::random::Random;
 use common::sheets::{draw, Family};
 use common::tally::Tally;
-use reference::all_sets::AllSets;
-use reference::flow::Flow;
+use reference::exact::Exact;
 use reference::support::find_support;
 use reference::{feasible, has, total, warm_ups, Sheet};
 
@@ -17,42 +16,76 @@ fn draw_sheet(family: Family, units: usize, steps: usize, random: &mut Random) -
     Sheet { units, bound: 0, start: campaign.start, steps: campaign.steps }
 }
 
+/// Two references on all cells of a sheet.
+fn compare(tally: &mut Tally, sheet: &Sheet, one: &Exact, other: &Exact) {
+    assert_eq!(one.fewest(), other.fewest(), "{sheet:?}");
+    tally.add("fewest", 1);
+    for (i, u, on) in cells(sheet) {
+        let cheapest = one.cheapest(i, u, on);
+        assert_eq!(cheapest, other.cheapest(i, u, on), "step {i}, unit {u}, on {on} of {sheet:?}");
+        tally.add_cell(cheapest.map(|total| total - one.fewest()));
+    }
+}
+
+fn finish(tally: &Tally, test: &str, least: u64) {
+    tally.print(test);
+    tally.require(&[
+        ("fewest", least),
+        ("never", least),
+        ("for nothing", least),
+        ("for 1", least),
+        ("for 2", least / 8),
+    ]);
+    assert_eq!(tally.of("for more"), 0, "one unit in one step never costs more than two warm-ups");
+}
+
 #[test]
-fn all_sets_and_flow() {
+fn all_sets_flow_and_forced_runs() {
     let mut random = Random::new(1);
     let mut tally = Tally::default();
     for round in 0..300 {
         for family in Family::ALL {
             let (units, steps) = (1 + round % 8, random.below(13));
             let sheet = draw_sheet(family, units, steps, &mut random);
-            let (all_sets, flow) = (AllSets::new(&sheet), Flow::new(&sheet));
-            assert_eq!(all_sets.fewest(), flow.fewest(), "{sheet:?}");
-            tally.add("fewest", 1);
-            for (i, u, on) in cells(&sheet) {
-                let cheapest = all_sets.cheapest(i, u, on);
-                assert_eq!(cheapest, flow.cheapest(i, u, on), "step {i}, unit {u}, on {on} of {sheet:?}");
-                tally.add(kind(cheapest.map(|total| total - all_sets.fewest())), 1);
-            }
+            let all_sets = Exact::all_sets(&sheet);
+            compare(&mut tally, &sheet, &all_sets, &Exact::flow(&sheet));
+            compare(&mut tally, &sheet, &all_sets, &Exact::forced(&sheet));
         }
     }
-    tally.print("all sets and flow");
-    tally.require(&[("fewest", 2000), ("never", 1000), ("for nothing", 1000), ("for 1", 1000), ("for 2", 100)]);
-    assert_eq!(tally.of("for more"), 0, "one unit in one step never costs more than two warm-ups");
+    finish(&tally, "all sets, flow and forced runs", 4000);
+}
+
+#[test]
+fn all_sets_and_forced_runs() {
+    let mut random = Random::new(4);
+    let mut tally = Tally::default();
+    for _ in 0..30 {
+        for family in Family::ALL {
+            let (units, steps) = (random.between(9, 14), random.below(65));
+            let sheet = draw_sheet(family, units, steps, &mut random);
+            compare(&mut tally, &sheet, &Exact::all_sets(&sheet), &Exact::forced(&sheet));
+        }
+    }
+    finish(&tally, "all sets and forced runs", 200);
+}
+
+#[test]
+fn flow_and_forced_runs() {
+    let mut random = Random::new(5);
+    let mut tally = Tally::default();
+    for _ in 0..10 {
+        for family in Family::ALL {
+            let (units, steps) = (random.between(15, 64), random.below(25));
+            let sheet = draw_sheet(family, units, steps, &mut random);
+            compare(&mut tally, &sheet, &Exact::flow(&sheet), &Exact::forced(&sheet));
+        }
+    }
+    finish(&tally, "flow and forced runs", 80);
 }
 
 fn cells(sheet: &Sheet) -> impl Iterator<Item = (usize, usize, bool)> + '_ {
     let units = sheet.units;
     (0..sheet.steps.len()).flat_map(move |i| (0..units).flat_map(move |u| [(i, u, true), (i, u, false)]))
-}
-
-fn kind(more: Option<u32>) -> &'static str {
-    match more {
-        None => "never",
-        Some(0) => "for nothing",
-        Some(1) => "for 1",
-        Some(2) => "for 2",
-        Some(_) => "for more",
-    }
 }
 
 #[test]
@@ -65,7 +98,7 @@ fn find_support_and_fewest() {
             let sheet = draw_sheet(family, units, steps, &mut random);
             let plan = find_support(&sheet);
             assert!(sheet.steps.iter().zip(&plan).all(|(step, &set)| feasible(step, set)), "{sheet:?}");
-            assert_eq!(total(sheet.start, &plan), Flow::new(&sheet).fewest(), "{sheet:?}");
+            assert_eq!(total(sheet.start, &plan), Exact::flow(&sheet).fewest(), "{sheet:?}");
             tally.add("fewest", 1);
         }
     }
@@ -82,7 +115,7 @@ fn all_plans() {
         for family in Family::ALL {
             let (units, steps) = (random.between(1, 3), random.below(5));
             let sheet = draw_sheet(family, units, steps, &mut random);
-            let (all_sets, plans) = (AllSets::new(&sheet), plans(&sheet, 0, sheet.start));
+            let (all_sets, plans) = (Exact::all_sets(&sheet), plans(&sheet, 0, sheet.start));
             assert_eq!(plans.iter().map(|plan| plan.0).min(), Some(all_sets.fewest()), "{sheet:?}");
             tally.add("fewest", 1);
             for (i, u, on) in cells(&sheet) {

@@ -2,7 +2,7 @@
 
 use super::random::Random;
 use super::tally::Tally;
-use crate::reference::replies::{Chart, Replies};
+use crate::reference::replies::Replies;
 use crate::reference::{units_below, Reply};
 use std::fmt::Debug;
 use warm::{Refused, Step};
@@ -62,8 +62,7 @@ impl Judge {
     /// All four entries, with outputs that are long enough, and the verdict on the plan.
     pub fn all(&mut self, sheet: &[u8], expected: &Replies) {
         self.all_but_chart(sheet, expected);
-        let [on, off] = [0; 2].map(|_| self.enough(expected));
-        self.chart(sheet, expected, on, off);
+        self.long_enough_chart(sheet, expected);
     }
 
     pub fn all_but_chart(&mut self, sheet: &[u8], expected: &Replies) {
@@ -101,19 +100,17 @@ impl Judge {
         }
     }
 
-    pub fn chart(&mut self, sheet: &[u8], expected: &Replies, on_places: usize, off_places: usize) {
-        self.chart_as(sheet, expected, expected.chart(on_places, off_places), on_places, off_places);
-    }
-
-    /// The chart of a sheet whose bound leaves room for two more warm-ups than the fewest, with outputs that are long enough.
-    pub fn roomy_chart(&mut self, sheet: &[u8], expected: &Replies) {
+    /// The chart, with outputs that are long enough. Gives what they hold then: the units that can be on, and those that can be off.
+    pub fn long_enough_chart(&mut self, sheet: &[u8], expected: &Replies) -> [Vec<u64>; 2] {
         let [on, off] = [0; 2].map(|_| self.enough(expected));
-        self.chart_as(sheet, expected, Ok(expected.roomy_chart()), on, off);
+        self.chart(sheet, expected, on, off)
     }
 
-    fn chart_as(&mut self, sheet: &[u8], expected: &Replies, want: Reply<Chart>, on_places: usize, off_places: usize) {
+    pub fn chart(&mut self, sheet: &[u8], expected: &Replies, on_places: usize, off_places: usize) -> [Vec<u64>; 2] {
         let (mut on, mut off) = (words(on_places), words(off_places));
         let got = self.with_lent_sheet(sheet, |sheet| warm::chart(sheet, on.lent(), off.lent()));
+        let held = [on.lent().to_vec(), off.lent().to_vec()];
+        let want = expected.chart(on_places, off_places);
         self.compare("chart", sheet, got, want.as_ref().map(|reply| reply.0).map_err(|&refusal| refusal));
         on.check(want.as_ref().map_or(&[], |reply| &reply.1), "chart, on", sheet);
         off.check(want.as_ref().map_or(&[], |reply| &reply.2), "chart, off", sheet);
@@ -123,6 +120,7 @@ impl Judge {
             self.count_cells(["can be on", "cannot be on"], units, &on);
             self.count_cells(["can be off", "cannot be off"], units, &off);
         }
+        held
     }
 
     pub fn verdict(&mut self, sheet: &[u8], expected: &Replies, plan: &[u64]) {
@@ -155,6 +153,13 @@ impl Judge {
         self.tally.add("calls", 1);
         if let Err((number, _)) = want {
             self.tally.add_refusal(number);
+        }
+    }
+
+    /// Counts the cells of a sheet by what they cost.
+    pub fn count_costs(&mut self, expected: &Replies) {
+        for cheapest in expected.cells().iter().flatten().flatten() {
+            self.tally.add_cell(cheapest.map(|total| total - expected.fewest()));
         }
     }
 

@@ -75,6 +75,8 @@ pub enum Family {
     Narrow,
     /// Every unit may be on and none must: ties everywhere.
     Full,
+    /// A unit must be on, or may not be, once in some sixty steps, and about half are on: a choice matters far along.
+    Rare,
     /// Two or three steps again and again.
     Repeated,
     /// Anything that passes the checks.
@@ -82,8 +84,16 @@ pub enum Family {
 }
 
 impl Family {
-    pub const ALL: [Family; 7] =
-        [Family::Sparse, Family::Tight, Family::Swinging, Family::Narrow, Family::Full, Family::Repeated, Family::Any];
+    pub const ALL: [Family; 8] = [
+        Family::Sparse,
+        Family::Tight,
+        Family::Swinging,
+        Family::Narrow,
+        Family::Full,
+        Family::Rare,
+        Family::Repeated,
+        Family::Any,
+    ];
 }
 
 /// A campaign of a family, with a bound of 0.
@@ -110,12 +120,14 @@ fn draw_step(family: Family, units: usize, i: usize, random: &mut Random) -> Ste
         Family::Full | Family::Swinging => all,
         Family::Sparse | Family::Tight => all & !random.part(all, 10),
         Family::Narrow => random.part(all, 2),
+        Family::Rare => all & !random.part(all, 60),
         Family::Repeated | Family::Any => random.part(all, 1) & !random.part(all, 3),
     };
     let lower = match family {
         Family::Full => 0,
         Family::Sparse | Family::Swinging => random.part(upper, 12),
         Family::Tight | Family::Narrow => random.part(upper, 4),
+        Family::Rare => random.part(upper, 60),
         Family::Repeated | Family::Any => random.part(upper, 3),
     };
     let (must, may) = (lower.count_ones() as usize, upper.count_ones() as usize);
@@ -124,12 +136,13 @@ fn draw_step(family: Family, units: usize, i: usize, random: &mut Random) -> Ste
         Family::Swinging if i % 2 == 0 => must + random.below(2),
         Family::Swinging => random.between(must.max(units / 2), units),
         Family::Full => random.between(0, units),
+        Family::Rare => must.max(units / 2 + random.below(3)),
         // Numbers above that of the units are allowed.
         Family::Any if random.one_in(8) => random.between(must, 255),
         _ => random.between(must, units),
     };
     let least = match family {
-        Family::Swinging => greatest.min(may) - random.below(2).min(greatest.min(may)),
+        Family::Swinging | Family::Rare => greatest.min(may) - random.below(2).min(greatest.min(may)),
         Family::Sparse => random.below(2).min(greatest).min(may),
         _ => random.between(0, greatest.min(may)),
     };

@@ -28,6 +28,18 @@ impl Tally {
         self.add(REFUSALS[number as usize - 1], 1);
     }
 
+    /// A cell of a chart, by the warm-ups that it takes more than the fewest; none if there is no such plan.
+    pub fn add_cell(&mut self, more: Option<u32>) {
+        let kind = match more {
+            None => "never",
+            Some(0) => "for nothing",
+            Some(1) => "for 1",
+            Some(2) => "for 2",
+            Some(_) => "for more",
+        };
+        self.add(kind, 1);
+    }
+
     pub fn of(&self, kind: &str) -> u64 {
         self.0.get(kind).copied().unwrap_or(0)
     }

@@ -1,21 +1,36 @@
-//! The fewest warm-ups of a sheet, in all and cell by cell, by one of two ways.
+//! The fewest warm-ups of a sheet, in all and cell by cell, by one of three ways.
 
 use super::all_sets::AllSets;
 use super::flow::Flow;
+use super::forced::Forced;
 use super::Sheet;
 
 pub enum Exact {
     AllSets(AllSets),
     Flow(Flow),
+    Forced(Forced),
 }
 
 impl Exact {
+    /// From all sets if there are few, else from the flow.
     pub fn new(sheet: &Sheet) -> Exact {
-        if sheet.units <= AllSets::UNITS {
-            Exact::AllSets(AllSets::new(sheet))
+        if sheet.units <= 12 {
+            Exact::all_sets(sheet)
         } else {
-            Exact::Flow(Flow::new(sheet))
+            Exact::flow(sheet)
         }
+    }
+
+    pub fn all_sets(sheet: &Sheet) -> Exact {
+        Exact::AllSets(AllSets::new(sheet))
+    }
+
+    pub fn flow(sheet: &Sheet) -> Exact {
+        Exact::Flow(Flow::new(sheet))
+    }
+
+    pub fn forced(sheet: &Sheet) -> Exact {
+        Exact::Forced(Forced::new(sheet))
     }
 
     /// The least total of any feasible plan.
@@ -23,6 +38,7 @@ impl Exact {
         match self {
             Exact::AllSets(all_sets) => all_sets.fewest(),
             Exact::Flow(flow) => flow.fewest(),
+            Exact::Forced(forced) => forced.fewest(),
         }
     }
 
@@ -31,6 +47,7 @@ impl Exact {
         match self {
             Exact::AllSets(all_sets) => all_sets.cheapest(step, u, on),
             Exact::Flow(flow) => flow.cheapest(step, u, on),
+            Exact::Forced(forced) => forced.cheapest(step, u, on),
         }
     }
 }

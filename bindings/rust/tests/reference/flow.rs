@@ -153,7 +153,7 @@ impl Network {
         let mut left = tokens;
         let mut cost = 0;
         while left > 0 {
-            let search = self.search(source, sink);
+            let search = self.search(source, sink, i64::MAX);
             let distance = search.distances[sink];
             assert!(distance < i64::MAX, "there is a way for every token");
             for (height, &reached) in self.heights.iter_mut().zip(&search.distances) {
@@ -184,20 +184,22 @@ impl Network {
         }
     }
 
-    /// The cost of the cheapest way from one node to another over edges with room, if there is one.
+    /// The cost of the cheapest way from one node to another over edges with room, if there is one that costs less than a bonus.
     fn shortest(&self, from: usize, to: usize) -> Option<i64> {
-        let distance = self.search(from, to).distances[to];
-        (distance < i64::MAX).then(|| distance - self.heights[from] + self.heights[to])
+        let climb = self.heights[from] - self.heights[to];
+        let limit = BONUS + climb;
+        let distance = self.search(from, to, limit).distances[to];
+        (distance < limit).then(|| distance - climb)
     }
 
-    /// Dijkstra's search with the costs that the heights make non-negative. Ends at the target.
-    fn search(&self, from: usize, target: usize) -> Search {
+    /// Dijkstra's search with the costs that the heights make non-negative. Ends at the target, or beyond the limit.
+    fn search(&self, from: usize, target: usize, limit: i64) -> Search {
         let nodes = self.leaving.len();
         let mut search = Search { distances: vec![i64::MAX; nodes], arrived_by: vec![usize::MAX; nodes] };
         let mut waiting = BinaryHeap::from([Reverse((0, from))]);
         search.distances[from] = 0;
         while let Some(Reverse((distance, node))) = waiting.pop() {
-            if node == target {
+            if node == target || distance > limit {
                 break;
             }
             if distance > search.distances[node] {

@@ -2,8 +2,9 @@
 //!
 //! - `reading`: the bytes of a sheet, refusals 1 to 7.
 //! - `support`: the plan that is handed out, FindSupport.
-//! - `exact`: the fewest warm-ups of any feasible plan, in all and with one unit on or off in one step. For up to 8 units from all sets
-//!   (`all_sets`), for more from a flow (`flow`). Neither knows FindSupport.
+//! - `exact`: the fewest warm-ups of any feasible plan, in all and with one unit on or off in one step. For up to 16 units from all sets
+//!   (`all_sets`), for any number from a flow (`flow`): neither knows FindSupport. Or by planning anew with that unit forced (`forced`),
+//!   quick enough for whole charts of the largest sheets.
 //! - `replies`: what each entry answers.
 
 // Each file of tests uses a part of this.
@@ -12,6 +13,7 @@
 pub mod all_sets;
 pub mod exact;
 pub mod flow;
+pub mod forced;
 pub mod reading;
 pub mod replies;
 pub mod support;
@@ -23,6 +25,9 @@ pub type Refusal = (u32, u32);
 
 /// A full reply, or a refusal.
 pub type Reply<T> = Result<T, Refusal>;
+
+/// By step and unit: the least total of a feasible plan with the unit on, and with the unit off.
+pub type Cells = Vec<Vec<[Option<u32>; 2]>>;
 
 /// Whether unit `u` is in a set.
 pub fn has(set: u64, u: usize) -> bool {

@@ -3,7 +3,7 @@
 use super::exact::Exact;
 use super::reading::{read, Sheet};
 use super::support::find_support;
-use super::{feasible, total, Reply};
+use super::{feasible, total, Cells, Reply};
 use std::cell::OnceCell;
 use std::rc::Rc;
 use warm::{Step, Summary, Verdict};
@@ -24,15 +24,17 @@ struct Campaign {
     cells: OnceCell<Cells>,
 }
 
-/// By step and unit: the least total of a feasible plan with the unit on, and with the unit off.
-type Cells = Vec<Vec<[Option<u32>; 2]>>;
-
 impl Replies {
     pub fn new(bytes: &[u8]) -> Replies {
+        Replies::by(bytes, Exact::new)
+    }
+
+    /// The replies, with the fewest warm-ups found in this way.
+    pub fn by(bytes: &[u8], exact: impl Fn(&Sheet) -> Exact) -> Replies {
         let sheet = read(bytes);
         let campaign = sheet.as_ref().ok().map(|sheet| {
             let plan = find_support(sheet);
-            Rc::new(Campaign { plan, exact: Exact::new(sheet), cells: OnceCell::new() })
+            Rc::new(Campaign { plan, exact: exact(sheet), cells: OnceCell::new() })
         });
         Replies { sheet, campaign }
     }
@@ -84,24 +86,6 @@ impl Replies {
         Ok((total(sheet.start, self.support()), on, off))
     }
 
-    /// The chart if the bound leaves room for two more warm-ups than the fewest, cheap for sheets of any size. Then the limits of a step
-    /// decide alone: a unit that they let be on (or off) costs a best plan at most two warm-ups more, as one exchange of units in that one
-    /// step does it. The tests of the reference try this. The sheet must pass the checks.
-    pub fn roomy_chart(&self) -> Chart {
-        let sheet = self.sheet.as_ref().unwrap();
-        assert!(sheet.bound >= self.fewest() + 2);
-        let collect = |can_be: &dyn Fn(&Step, u64) -> bool| {
-            let word = |step| (0..sheet.units).map(|u| 1 << u).filter(|&unit| can_be(step, unit)).sum();
-            sheet.steps.iter().map(word).collect()
-        };
-        let on = collect(&|step, unit| {
-            step.upper & unit != 0 && (step.lower | unit).count_ones() <= u32::from(step.greatest)
-        });
-        let off =
-            collect(&|step, unit| step.lower & unit == 0 && (step.upper & !unit).count_ones() >= u32::from(step.least));
-        (total(sheet.start, self.support()), on, off)
-    }
-
     pub fn verdict(&self, plan: &[u64]) -> Reply<Verdict> {
         let sheet = self.sheet.as_ref().map_err(|&refusal| refusal)?;
         if plan.len() != self.n() {
@@ -132,14 +116,17 @@ impl Replies {
 
     /// The units that can be on (or off) in a step within the bound.
     fn can_be(&self, sheet: &Sheet, step: usize, on: bool) -> u64 {
-        let cells = self.campaign().cells.get_or_init(|| self.cells(sheet));
+        let cells = self.cells();
         let within = |&u: &usize| cells[step][u][usize::from(!on)].is_some_and(|total| total <= sheet.bound);
         (0..sheet.units).filter(within).map(|u| 1 << u).sum()
     }
 
-    fn cells(&self, sheet: &Sheet) -> Cells {
+    /// All cells. The sheet must pass the checks.
+    pub fn cells(&self) -> &Cells {
+        let units = self.sheet.as_ref().unwrap().units;
         let cell = |step, u| [self.cheapest(step, u, true), self.cheapest(step, u, false)];
-        (0..self.n()).map(|step| (0..sheet.units).map(|u| cell(step, u)).collect()).collect()
+        let all = || (0..self.n()).map(|step| (0..units).map(|u| cell(step, u)).collect()).collect();
+        self.campaign().cells.get_or_init(all)
     }
 
     fn campaign(&self) -> &Campaign {

@@ -2,6 +2,9 @@
 
 use super::{has, Sheet};
 
+/// The place of a unit in the ranking, by which units are sorted, and the unit.
+pub type Rank = (bool, isize, usize);
+
 pub fn find_support(sheet: &Sheet) -> Vec<u64> {
     let mut before = sheet.start;
     let mut plan = Vec::new();
@@ -39,7 +42,7 @@ fn ranking(sheet: &Sheet, i: usize) -> Vec<usize> {
 }
 
 /// Wanted units before the rest; among wanted ones the earlier need first, among the rest the later ban first; then the lower number.
-fn rank(need: usize, ban: usize, u: usize) -> (bool, isize, usize) {
+pub fn rank(need: usize, ban: usize, u: usize) -> Rank {
     let wanted = need < ban;
     if wanted {
         (false, need as isize, u)
@@ -49,13 +52,13 @@ fn rank(need: usize, ban: usize, u: usize) -> (bool, isize, usize) {
 }
 
 /// The earliest step from `i` on whose lower set has `u`, or n + 2.
-fn need(sheet: &Sheet, i: usize, u: usize) -> usize {
+pub fn need(sheet: &Sheet, i: usize, u: usize) -> usize {
     let n = sheet.steps.len();
     (i..=n).find(|&j| has(sheet.steps[j - 1].lower, u)).unwrap_or(n + 2)
 }
 
 /// The earliest step from `i` on whose upper set lacks `u`, or n + 1.
-fn ban(sheet: &Sheet, i: usize, u: usize) -> usize {
+pub fn ban(sheet: &Sheet, i: usize, u: usize) -> usize {
     let n = sheet.steps.len();
     (i..=n).find(|&j| !has(sheet.steps[j - 1].upper, u)).unwrap_or(n + 1)
 }
