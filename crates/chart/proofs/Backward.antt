@@ -13,7 +13,7 @@ use Rattle.switch.specs.Plans.{Below}
 use Rattle.switch.specs.Switch.{Limits, Allows, Satisfiable, switches}
 use Rattle.switch.proofs.Orders.{Ordered}
 use Rattle.switch.proofs.Totals.{switches-insert}
-use Rattle.chart.specs.Tables.{gathered, meets, all, free, held, new, more, less, Later, ended, savesBefore, sparedBefore, evenBefore, gainBefore, stepped, laterFrom}
+use Rattle.chart.specs.Tables.{gathered, meets, all, free, held, new, more, less, Later, ended, savesBefore, sparedBefore, evenRow, gainRow, evenBefore, gainBefore, stepped, laterFrom}
 use Rattle.chart.proofs.Changed.{from-more, from-less, to-less, lacks-old, has-new, switches-to, switches-on, allows-more, allows-less, allows-swap}
 use Rattle.chart.proofs.Raised.{Raised, Near}
 use Rattle.chart.proofs.Ranking.{rank, rank-ordered}
@@ -305,7 +305,7 @@ module _ (s : Limits) (due₀ due₁ : ℕ → ℕ) (p t : ℕ) (within : s .upp
         in-given (held s t) b (intersection row (free s t)) a .1 (hb, in-intersection _ _ _ .1 (h (omega arith), fa))
 
     even-sound : bit (evenBefore s p t w b) a ≡ 1 → due₀ (swap p b a) ≤ due₀ p
-    unfolding evenBefore
+    unfolding evenBefore evenRow
     even-sound h =
         ⊎-elim (λ m. let (x, (best, (xa, sub))) = saves-sound a la pa m in omega (arith, from-best 0 x best, bit-le x b))
         (⊎-elim by-spared
@@ -318,7 +318,7 @@ module _ (s : Limits) (due₀ due₁ : ℕ → ℕ) (p t : ℕ) (within : s .upp
             omega (arith, from-best 0 x best)
 
     even-complete : due₀ (swap p b a) ≤ due₀ p → bit (evenBefore s p t w b) a ≡ 1
-    unfolding evenBefore
+    unfolding evenBefore evenRow
     even-complete h = in-union₃ _ _ _ _ .1 (way near-swapped)
       where
         spared : bit (sparedBefore s p t w) b ≡ 1 → bit (cond (contains (sparedBefore s p t w) b) all 0) a ≡ 1
@@ -343,7 +343,7 @@ module _ (s : Limits) (due₀ due₁ : ℕ → ℕ) (p t : ℕ) (within : s .upp
                 inr (inr (turn-complete 1 (w .even b) x (best 1 (omega arith)) n xb xa tb ta (λ l. right .even b a lb la tb ta .1 (omega arith))))
 
     gain-sound : bit (gainBefore s p t w b) a ≡ 1 → due₀ (swap p b a) + 1 ≤ due₀ p
-    unfolding gainBefore
+    unfolding gainBefore gainRow
     gain-sound h =
         ⊎-elim by-saves
         (⊎-elim by-spared
@@ -363,7 +363,7 @@ module _ (s : Limits) (due₀ due₁ : ℕ → ℕ) (p t : ℕ) (within : s .upp
             omega (arith, from-best 0 x best, sup a (λ q. other (sym q)), in-new p t a .0 c)
 
     gain-complete : due₀ (swap p b a) + 1 ≤ due₀ p → bit (gainBefore s p t w b) a ≡ 1
-    unfolding gainBefore
+    unfolding gainBefore gainRow
     gain-complete h = in-union₃ _ _ _ _ .1 (way near-swapped)
       where
         way : NearBest (swap p b a) → (bit (cond (contains t b) 0 (savesBefore s p t w)) a ≡ 1)

@@ -13,8 +13,8 @@ use Rattle.units.specs.Sets.{bit, contains, union, difference}
 use Rattle.units.proofs.Sets.{bit-cases, bit-difference, bit-empty, bit-le}
 use Rattle.switch.specs.Columns.{bare, setsOf}
 use Rattle.switch.specs.Switch.{Limits}
-use Rattle.chart.specs.Places.{rowsIn, turnedRow, Kept, KeptAll, SameBelow}
-use Rattle.chart.specs.Tables.{gathered, held, free, new, come, rowBefore, turned, setAt, stepAt, heldAt, rowsAt}
+use Rattle.chart.specs.Places.{rowsIn, Kept, KeptAll, SameBelow}
+use Rattle.chart.specs.Tables.{gathered, held, free, new, come, rowBefore, turned, setAt, stepAt, heldAt, rowsAt, turnedRow}
 use Rattle.chart.proofs.Words.{contains-in, contains-out, gathered-same}
 
 -- ---- one step
@@ -68,7 +68,7 @@ turned-same s p t h f g b l same = rw (come-same p t h f g same, row-same h f g 
 pub step-turned : (lower upper p t h : ℕ) (f : ℕ → ℕ) (b : ℕ) {fr nw coming : ℕ} → fr ≡ difference upper t → nw ≡ difference t p
     → coming ≡ union p (gathered 64 (difference h t) f)
     → turnedRow fr nw coming (contains p b) (rowBefore h f b) ≡ turned (bare lower upper) p t h f b
-unfolding turned turnedRow come free new
+unfolding turned come free new
 step-turned lower upper p t h f b x y z = rw (x, y, z)
 
 -- ---- the rows of the plan

@@ -17,7 +17,7 @@ use Rattle.switch.specs.Switch.{Limits, Allows, Satisfiable, switches}
 use Rattle.switch.proofs.Greedy.{support-in}
 use Rattle.switch.proofs.Orders.{Ordered}
 use Rattle.switch.proofs.Stands.{GreedyIn}
-use Rattle.chart.specs.Tables.{meets, gathered, free, held, new, come, rowBefore, turned, setAt, stepAt, heldAt, rowsAt}
+use Rattle.chart.specs.Tables.{meets, gathered, free, held, new, come, rowBefore, turned, turnedRow, setAt, stepAt, heldAt, rowsAt}
 use Rattle.chart.proofs.Before.{before-step}
 use Rattle.chart.proofs.Changed.{lacks-old, has-new, same-else, switches-to, switches-on, allows-swap}
 use Rattle.chart.proofs.Prefix.{steps-from, satisfiable-at, whereAt, spentAt, set-at, Reach, reach-on, reach-le, reach-plan}
@@ -67,7 +67,7 @@ module _ (p t h : ℕ) (f : ℕ → ℕ) where
 
     -- those of the row that is made of them
     pub in-turned : h < 2 ^ 64 → (b a : ℕ) → bit (turned s p t h f b) a ≡ 1 ↔ (Free a × Turns b a)
-    unfolding turned
+    unfolding turned turnedRow
     in-turned l b a = go (contains p b) (meets row (new p t)) refl refl
       where
         row : ℕ

@@ -11,8 +11,8 @@ use Rattle.units.specs.Sets.{bit, union, intersection, difference, contains, re
 use Rattle.units.proofs.Sets.{bit-empty, bit-le, bit-remove, remove-subset}
 use Rattle.switch.specs.Switch.{Limits}
 use Rattle.chart.specs.declared.back.Back.{Back}
-use Rattle.chart.specs.Backs.{leftRow, evenRow, gainRow}
-use Rattle.chart.specs.Tables.{gathered, passing, meets, free, held, new, more, less, Later, savesBefore, sparedBefore, evenBefore, gainBefore}
+use Rattle.chart.specs.Backs.{leftRow}
+use Rattle.chart.specs.Tables.{gathered, passing, meets, free, held, new, more, less, Later, savesBefore, sparedBefore, evenBefore, gainBefore, evenRow, gainRow}
 use Rattle.chart.proofs.Finding.{passing-loose}
 use Rattle.chart.proofs.Gathering.{member-below, none-left, one-done, same-units}
 use Rattle.chart.proofs.Words.{bit-gathered, contains-out, in-union, in-difference, in-lacking, passing-same}
@@ -130,10 +130,10 @@ pub record Common (s : Limits) (p t : ℕ) (w : Later) (back : Back) : Type 0 wh
 
 -- then the rows are the tables' rows
 module _ {s : Limits} {p t : ℕ} {w : Later} {back : Back} (c : Common s p t w back) (b : ℕ) {row : ℕ} where
-  pub even-back : row ≡ w .even b → evenRow back b row ≡ evenBefore s p t w b
-  unfolding evenRow evenBefore
+  pub even-back : row ≡ w .even b → evenRow (back .saves) (back .spared) (back .held) (back .free) b row ≡ evenBefore s p t w b
+  unfolding evenBefore
   even-back e = rw (e, c .saves, c .spared, c .held, c .free)
 
-  pub gain-back : row ≡ w .gain b → gainRow back b row ≡ gainBefore s p t w b
-  unfolding gainRow gainBefore
+  pub gain-back : row ≡ w .gain b → gainRow (back .saves) (back .spared) (back .held) (back .free) (back .on) (back .new) b row ≡ gainBefore s p t w b
+  unfolding gainBefore
   gain-back e = rw (e, c .saves, c .spared, c .held, c .on, c .new, c .free)

@@ -18,7 +18,7 @@ use Rattle.chart.specs.declared.back.Turn.{Turn}
 use Rattle.chart.specs.Backs.{limitsOf}
 use Rattle.chart.specs.Blocks.{TurnAt, Agree}
 use Rattle.chart.specs.Places.{Kept, laterIn, Between}
-use Rattle.chart.specs.Tables.{meets, all, held, free, more, less, turned, setAt, stepAt, heldAt, rowsAt, Later, ended, savesBefore, sparedBefore, evenBefore, gainBefore, stepped, laterFrom, inPlace, onWord, offWord, laterAt, onAt, offAt}
+use Rattle.chart.specs.Tables.{meets, all, held, free, more, less, turned, setAt, stepAt, heldAt, rowsAt, Later, ended, savesBefore, sparedBefore, evenRow, gainRow, evenBefore, gainBefore, stepped, laterFrom, inPlace, onWord, offWord, laterAt, onAt, offAt}
 use Rattle.chart.proofs.Blocks.{sets-at}
 use Rattle.chart.proofs.Prefix.{steps-from}
 use Rattle.chart.proofs.Words.{contains-in, contains-out, gathered-same, passing-same}
@@ -76,11 +76,11 @@ module _ (s : Limits) (p t : ℕ) (v w : Later) (a : Agree (held s t) v w) where
       go (inr e) = rw (contains-in (held s t) b e, same e)
 
   pub even-same : (b : ℕ) → b < 64 → evenBefore s p t v b ≡ evenBefore s p t w b
-  unfolding evenBefore
+  unfolding evenBefore evenRow
   even-same b h = rw (saves-same, spared-same, row-agrees (v .even) (w .even) b (free s t) (a .even b h))
 
   pub gain-same : (b : ℕ) → b < 64 → gainBefore s p t v b ≡ gainBefore s p t w b
-  unfolding gainBefore
+  unfolding gainBefore gainRow
   gain-same b h = rw (saves-same, spared-same, row-agrees (v .gain) (w .gain) b (free s t) (a .gain b h))
 
 -- ---- words between two places

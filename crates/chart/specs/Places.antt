@@ -1,20 +1,15 @@
 -- How the tables lie in memory: as words in a list, the row of unit b at the place b after some place.
 use mathlib.Core.Path.{_≡_}
-use mathlib.Core.Bool.{Bool, cond, not, _&&_}
 use mathlib.Core.List.{List}
 use Prim.Native.Nat.{ℕ, _+_, _*_, _≤_, _<_}
 use lib.ListN.{length, getD}
-use Rattle.units.specs.Sets.{bit, union, intersection}
+use Rattle.units.specs.Sets.{bit}
 use Rattle.switch.specs.Switch.{Limits}
-use Rattle.chart.specs.Tables.{meets, heldAt, rowsAt, Later}
+use Rattle.chart.specs.Tables.{heldAt, rowsAt, Later}
 
 -- the rows from a place on
 abbrev pub rowsIn : List ℕ → ℕ → ℕ → ℕ
 rowsIn l at = λ b. getD l (at + b) 0
-
--- the row of a unit after a step, from its row before: `turned` in terms of what the step's rows have in common
-unfoldable pub turnedRow : ℕ → ℕ → ℕ → Bool → ℕ → ℕ
-turnedRow free new coming on row = cond (on && not (meets row new)) (intersection free (union coming row)) free
 
 -- from a place on, the rows of the units held after i steps
 abbrev pub Kept : ℕ → List Limits → List ℕ → ℕ → List ℕ → ℕ → Type 0

@@ -63,11 +63,13 @@ come p t h f = union p (gathered 64 (difference h t) f)
 unfoldable pub rowBefore : ℕ → (ℕ → ℕ) → ℕ → ℕ
 rowBefore h f b = cond (contains h b) (f b) 0
 
--- the units that can be on after the step in place of b, which is held, at no more switches
+-- The units that can be on after the step in place of b, which is held, at no more switches: from the free units, those that enter, those that come,
+-- whether b was on, and its row before.
+unfoldable pub turnedRow : ℕ → ℕ → ℕ → Bool → ℕ → ℕ
+turnedRow able entering coming on row = cond (on && not (meets row entering)) (intersection able (union coming row)) able
+
 unfoldable pub turned : Limits → ℕ → ℕ → ℕ → (ℕ → ℕ) → ℕ → ℕ
-turned s p t h f b =
-    let row = rowBefore h f b in
-    cond (contains p b && not (meets row (new p t))) (intersection (free s t) (union (come p t h f) row)) (free s t)
+turned s p t h f b = turnedRow (free s t) (new p t) (come p t h f) (contains p b) (rowBefore h f b)
 
 -- the set of the plan after i steps
 unfoldable pub setAt : ℕ → List ℕ → ℕ → ℕ
@@ -101,6 +103,17 @@ pub record Later : Type 0 where
 unfoldable pub ended : Later
 ended = record { saves = 0; spared = all; even = λ b. all; gain = λ b. 0 }
 
+-- The rows of unit b before a step, from its row after, the units that save and those that are spared before the step, those held after it, the free ones,
+-- and for the gain those that are on after it and those that enter.
+unfoldable pub evenRow : ℕ → ℕ → ℕ → ℕ → ℕ → ℕ → ℕ
+evenRow saving sparing staying able b row =
+    union saving (union (cond (contains sparing b) all 0) (cond (contains staying b) (intersection row able) 0))
+
+unfoldable pub gainRow : ℕ → ℕ → ℕ → ℕ → ℕ → ℕ → ℕ → ℕ → ℕ
+gainRow saving sparing staying able after entering b row =
+    union (cond (contains after b) 0 saving)
+    (union (cond (contains sparing b) entering 0) (cond (contains staying b) (intersection row able) 0))
+
 module _ (s : Limits) (p t : ℕ) (w : Later) where
   unfoldable pub savesBefore : ℕ
   savesBefore =
@@ -115,13 +128,10 @@ module _ (s : Limits) (p t : ℕ) (w : Later) where
       (λ b. (less s t && contains (w .spared) b) || (meets (w .even b) (intersection (free s t) p) || meets (w .gain b) (free s t))))
 
   unfoldable pub evenBefore : ℕ → ℕ
-  evenBefore b =
-      union savesBefore (union (cond (contains sparedBefore b) all 0) (cond (contains (held s t) b) (intersection (w .even b) (free s t)) 0))
+  evenBefore b = evenRow savesBefore sparedBefore (held s t) (free s t) b (w .even b)
 
   unfoldable pub gainBefore : ℕ → ℕ
-  gainBefore b =
-      union (cond (contains t b) 0 savesBefore)
-      (union (cond (contains sparedBefore b) (new p t) 0) (cond (contains (held s t) b) (intersection (w .gain b) (free s t)) 0))
+  gainBefore b = gainRow savesBefore sparedBefore (held s t) (free s t) t (new p t) b (w .gain b)
 
   -- the same of the neighbours of p, before the step
   unfoldable pub stepped : Later

@@ -15,9 +15,9 @@ ghost use mathlib.Core.Bool.{cond, _||_};
 ghost use Prim.Native.Nat.{ℕ, _≤_, _<_, _+_};
 ghost use lib.ListN.{length, getD};
 ghost use Rattle.units.specs.Sets.{bit, union, intersection};
-ghost use Rattle.chart.specs.Backs.{limitsOf, leftRow, evenRow, gainRow};
+ghost use Rattle.chart.specs.Backs.{limitsOf, leftRow};
 ghost use Rattle.chart.specs.Places.{rowsIn, laterIn};
-ghost use Rattle.chart.specs.Tables.{gathered, passing, meets, inPlace, onWord, offWord, savesBefore, sparedBefore, evenBefore, gainBefore};
+ghost use Rattle.chart.specs.Tables.{gathered, passing, meets, evenRow, gainRow, inPlace, onWord, offWord, savesBefore, sparedBefore, evenBefore, gainBefore};
 
 // All units of a word.
 pub const ALL: u64 = 18446744073709551615;
@@ -120,7 +120,7 @@ pub struct Back {
 // The even row of unit b before a step, from its row after.
 fn even_row(s: Back, b: u32, row: u64) -> u64
     requires { ⌜ b < 64 ⌝ }
-    ensures { λ r. ⌜ r ≡ evenRow s b row ⌝ }
+    ensures { λ r. ⌜ r ≡ evenRow (s .saves) (s .spared) (s .held) (s .free) b row ⌝ }
 {
     let spared = choose(contains(s.spared, b), ALL, 0);
     let stays = choose(contains(s.held, b), intersection(row, s.free), 0);
@@ -130,7 +130,7 @@ fn even_row(s: Back, b: u32, row: u64) -> u64
 // The gain row of unit b before a step, from its row after.
 fn gain_row(s: Back, b: u32, row: u64) -> u64
     requires { ⌜ b < 64 ⌝ }
-    ensures { λ r. ⌜ r ≡ gainRow s b row ⌝ }
+    ensures { λ r. ⌜ r ≡ gainRow (s .saves) (s .spared) (s .held) (s .free) (s .on) (s .new) b row ⌝ }
 {
     let leaves = choose(contains(s.on, b), 0, s.saves);
     let spared = choose(contains(s.spared, b), s.new, 0);
@@ -144,8 +144,8 @@ fn turn_back(even: &mut [u64], gain: &mut [u64], s: Back, set: u64)
     ensures { λ _.
         ⌜
         ((b : ℕ) → bit set b ≡ 1
-        → (getD (now (even .exit)) b 0 ≡ evenRow s b (getD (now (even .entry)) b 0))
-        × (getD (now (gain .exit)) b 0 ≡ gainRow s b (getD (now (gain .entry)) b 0)))
+        → (getD (now (even .exit)) b 0 ≡ evenRow (s .saves) (s .spared) (s .held) (s .free) b (getD (now (even .entry)) b 0))
+        × (getD (now (gain .exit)) b 0 ≡ gainRow (s .saves) (s .spared) (s .held) (s .free) (s .on) (s .new) b (getD (now (gain .entry)) b 0)))
         ⌝ }
 {
     let mut left = set;

@@ -9,8 +9,8 @@ ghost use mathlib.Core.Path.{_≡_};
 ghost use Prim.Native.Nat.{ℕ, _≤_, _<_, _+_};
 ghost use lib.ListN.{length, getD};
 ghost use Rattle.units.specs.Sets.{bit, contains};
-ghost use Rattle.chart.specs.Places.{rowsIn, turnedRow, SameBelow};
-ghost use Rattle.chart.specs.Tables.{gathered, meets, rowBefore};
+ghost use Rattle.chart.specs.Places.{rowsIn, SameBelow};
+ghost use Rattle.chart.specs.Tables.{gathered, meets, rowBefore, turnedRow};
 
 // Whether two sets have a common unit.
 pub fn meets(a: u64, b: u64) -> bool

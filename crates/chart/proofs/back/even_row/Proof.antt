@@ -1,6 +1,6 @@
 -- `chart::back::even_row` meets its contract.
-use Rattle.chart.specs.Backs.{evenRow}
 use borrow.Author.Needs.{needs}
+use Rattle.chart.specs.Tables.{evenRow}
 use Rattle.chart.proofs.back.even_row.Statement.{statement}
 use Rattle.chart.proofs.back.even_row.Tie as tie
 

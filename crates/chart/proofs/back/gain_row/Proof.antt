@@ -1,6 +1,6 @@
 -- `chart::back::gain_row` meets its contract.
-use Rattle.chart.specs.Backs.{gainRow}
 use borrow.Author.Needs.{needs}
+use Rattle.chart.specs.Tables.{gainRow}
 use Rattle.chart.proofs.back.gain_row.Statement.{statement}
 use Rattle.chart.proofs.back.gain_row.Tie as tie
 

@@ -3,7 +3,7 @@ use mathlib.Core.Path.{ap}
 use Prim.Native.Nat.{_<_, _^_}
 use native.Mathlib.Omega.{arith}
 use Rattle.units.specs.Sets.{size}
-use Rattle.chart.specs.Backs.{evenRow, gainRow}
+use Rattle.chart.specs.Tables.{evenRow, gainRow}
 use Rattle.chart.proofs.Gathering.{member-below, rest-smaller, rest-word}
 use Rattle.chart.proofs.Returning.{Turned, turned-none, turned-on, turned-done}
 use borrow.Author.Needs.{needs}
@@ -11,7 +11,7 @@ use Rattle.chart.proofs.back.turn_back.Statement.{statement}
 use Rattle.chart.proofs.back.turn_back.Tie as tie
 
 abbrev Inv-loop : tie.InvT-loop
-Inv-loop even₀ gain₀ s set left₀ even gain left = Turned even₀ even (evenRow s) set left × (Turned gain₀ gain (gainRow s) set left × (left < 2 ^ 64))
+Inv-loop even₀ gain₀ s set left₀ even gain left = Turned even₀ even (evenRow (s .saves) (s .spared) (s .held) (s .free)) set left × (Turned gain₀ gain (gainRow (s .saves) (s .spared) (s .held) (s .free) (s .on) (s .new)) set left × (left < 2 ^ 64))
 
 abbrev μ-loop : tie.MeasureT-loop
 μ-loop even₀ gain₀ s set left₀ even gain left = size left

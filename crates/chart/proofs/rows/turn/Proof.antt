@@ -4,8 +4,8 @@ use Prim.Native.Nat.{_<_, _^_}
 use native.Mathlib.Omega.{arith}
 use denote.Ref.{now}
 use Rattle.units.specs.Sets.{contains, size}
-use Rattle.chart.specs.Places.{rowsIn, turnedRow}
-use Rattle.chart.specs.Tables.{rowBefore}
+use Rattle.chart.specs.Places.{rowsIn}
+use Rattle.chart.specs.Tables.{rowBefore, turnedRow}
 use Rattle.chart.proofs.Gathering.{member-below, none-left, rest-smaller, rest-word}
 use Rattle.chart.proofs.Turning.{Written, written-none, written-on, row-kept}
 use borrow.Author.Needs.{needs}

@@ -3,8 +3,7 @@ use mathlib.Core.Path.{_≡_, ap, ap₂, _∙_, refl}
 use mathlib.Core.Bool.{Bool, true, false, cond, not, _&&_}
 use Prim.Native.Nat.{ℕ}
 use Rattle.units.specs.Sets.{intersection, union}
-use Rattle.chart.specs.Places.{turnedRow}
-use Rattle.chart.specs.Tables.{meets}
+use Rattle.chart.specs.Tables.{meets, turnedRow}
 use borrow.Author.Needs.{needs}
 use Rattle.chart.proofs.rows.turn_row.Statement.{statement}
 use Rattle.chart.proofs.rows.turn_row.Tie as tie
