@@ -216,32 +216,6 @@ fn drawn_faults() {
     judge.tally.require(&[("plans", 500), ("charts", 500), ("accepted", 500), ("turned down", 200)]);
 }
 
-/// Long chains with one fault at any link or step.
-#[test]
-fn faults_far_along() {
-    let mut judge = Judge::new(34);
-    let mut random = Random::new(34);
-    for _ in 0..400 {
-        let steps = random.between(200, 256);
-        let campaign = Campaign { bound: u16::MAX, ..draw(Family::Any, 4, steps, &mut random) };
-        let mut bytes = campaign.scattered(256 - steps, &mut random);
-        let (chain, _) = walk(&bytes);
-        let at = 24 * random.pick(&chain);
-        match random.below(4) {
-            0 => bytes[at + 19] = random.between(1, 255) as u8,
-            1 => bytes[at + 18..at + 20].copy_from_slice(&(random.pick(&chain) as u16).to_le_bytes()),
-            2 => bytes[at + 8] |= 16 << random.below(4),
-            _ => bytes[at + 16] = 5,
-        }
-        let expected = Replies::new(&bytes);
-        judge.steps(&bytes, &expected, STEPS);
-        judge.plan(&bytes, &expected, STEPS);
-        judge.verdict(&bytes, &expected, &[0; STEPS]);
-    }
-    judge.tally.print("faults far along");
-    judge.tally.require_refusals(4..=7, 100);
-}
-
 /// All that the library answers to a sheet, the lists of steps without their tags.
 #[derive(Debug, PartialEq)]
 struct Answers {

@@ -28,6 +28,15 @@ impl Random {
         low + self.below(high - low + 1)
     }
 
+    /// A number from `low` to `high`, both included, and every second time `low` itself.
+    pub fn low_or_between(&mut self, low: usize, high: usize) -> usize {
+        if self.one_in(2) {
+            low
+        } else {
+            self.between(low, high)
+        }
+    }
+
     /// True once in so many times.
     pub fn one_in(&mut self, times: usize) -> bool {
         self.below(times) == 0

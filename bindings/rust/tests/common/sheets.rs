@@ -47,15 +47,20 @@ impl Campaign {
         bytes[16..24].copy_from_slice(&self.start.to_le_bytes());
         for (i, step) in self.steps.iter().enumerate() {
             let record = &mut bytes[24 * order[i]..][..24];
-            record[0..8].copy_from_slice(&step.lower.to_le_bytes());
-            record[8..16].copy_from_slice(&step.upper.to_le_bytes());
-            record[16] = step.least;
-            record[17] = step.greatest;
+            put_limits(record, step);
             record[18..20].copy_from_slice(&follower(i + 1).to_le_bytes());
             record[20..24].copy_from_slice(&step.tag.to_le_bytes());
         }
         bytes
     }
+}
+
+/// Writes the sets and the numbers of a step into its record.
+pub fn put_limits(record: &mut [u8], step: &Step) {
+    record[0..8].copy_from_slice(&step.lower.to_le_bytes());
+    record[8..16].copy_from_slice(&step.upper.to_le_bytes());
+    record[16] = step.least;
+    record[17] = step.greatest;
 }
 
 pub fn set_bound(bytes: &mut [u8], bound: u16) {
