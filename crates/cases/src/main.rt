@@ -1,122 +1,92 @@
-// Tries the reader of sheets on thousands of sheets, sound ones and damaged ones, and writes for each kind how often it was right.
-// What the reader must answer is known from how each sheet is made (docs/FORMAT.md has the format and the refusals).
-mod chain;
-mod fixed;
-mod header;
-mod kinds;
-mod sound;
-mod steps;
-mod trial;
-
-use kinds::Kind;
-use trial::Trial;
+// Reads the sheets at the edges of the format that the requirements name, and writes what the reader answers to each. The file stdout has
+// what it must answer, as the requirements say it.
+use libc::STDOUT_FILENO;
+use sheet::ReadAnswer;
+use sheet::Sheet;
+use trials::layout::Head;
+use trials::layout::Limits;
 use trials::layout::SPACE;
 use trials::layout::Space;
-use trials::layout::length_of;
-use trials::tally::Tally;
+use trials::layout::put_head;
+use trials::layout::put_limits;
+use trials::layout::put_link;
+use trials::layout::put_most_steps;
+ghost use Prim.Native.Nat.{_≤_, _<_};
 
-// How many sheets of each kind.
-const CASES: usize = 8000;
+// The bytes of a sheet with one record.
+const ONE_RECORD: usize = Sheet::HEADER_SIZE + Sheet::RECORD_SIZE;
 
-// Whether the reader answers as it must. No sheet is longer than the room for it: the first test is for the check.
-fn is_right(case: usize, trial: Trial, bytes: &Space) -> bool {
-    if SPACE < trial.length {
-        return false;
-    }
-    if trial.number == 0 {
-        return trial::is_read(bytes, trial.length, sound::summary_of(case));
-    }
-    trial::is_refused(bytes, trial.length, trial.number, trial.place)
+// Puts a header with so many units and records.
+fn put_numbers(bytes: &mut Space, units: usize, records: usize)
+    requires { ⌜ (units < 256) × (records < 65536) ⌝ }
+{
+    put_head(
+        bytes,
+        Head {
+            units,
+            records,
+            bound: 0,
+            start: 0,
+        },
+    );
 }
 
-// Makes the sheet of a case, with the faults of that kind, and tries the reader on it.
-fn try_case(kind: Kind, case: usize) -> Tally {
-    let mut order = [0usize; 257];
+// The limits of a step in which any set within the upper set may be on.
+fn any_of(upper: u64) -> Limits {
+    Limits {
+        lower: 0,
+        upper,
+        least: 0,
+        greatest: u8::MAX,
+    }
+}
+
+// Writes a refusal.
+fn write_refusal(number: u64, place: u64) {
+    io::write_all(STDOUT_FILENO, b": refusal ");
+    io::print_decimal(STDOUT_FILENO, number);
+    io::write_all(STDOUT_FILENO, b", place ");
+    io::print_decimal(STDOUT_FILENO, place);
+    io::write_all(STDOUT_FILENO, b"\n");
+}
+
+// Writes a line: the name of a sheet, and what the reader answers to so many bytes of it.
+fn report(name: &[u8], bytes: &Space, length: usize)
+    requires { ⌜ length ≤ 6192 ⌝ }
+{
+    let whole: &[u8] = bytes;
+    io::write_all(STDOUT_FILENO, name);
+    match sheet::open::read(&whole[0..length]) {
+        ReadAnswer::Refused(x) => write_refusal(x.number as u64, x.place as u64),
+        ReadAnswer::Read(_) => {
+            io::write_all(STDOUT_FILENO, b": passes\n");
+        }
+    }
+}
+
+// Fewer bytes than a header has, the longest sheet, and a byte more.
+fn report_lengths() {
     let mut bytes = [0u8; SPACE];
-    sound::shuffle(case, &mut order);
-    sound::put_sheet(case, &order, &mut bytes);
-    let length = length_of(sound::records_of(case));
-    let trial = kinds::spoil(kind, case, &order, Trial::sound(length), &mut bytes);
-    if !trial.made {
-        return Tally::none();
-    }
-    Tally::of(is_right(case, trial, &bytes))
+    put_numbers(&mut bytes, 1, Sheet::RECORD_LIMIT);
+    put_most_steps(&mut bytes, any_of(1), any_of(1));
+    report(b"length 23", &bytes, Sheet::HEADER_SIZE - 1);
+    report(b"length 6168", &bytes, Sheet::LONGEST);
+    report(b"length 6169", &bytes, Sheet::LONGEST + 1);
 }
 
-// Tries all cases of a kind.
-fn try_kind(kind: Kind) -> Tally {
-    let mut tally = Tally::none();
-    let mut case = 0;
-    while case < CASES {
-        tally = tally.plus(try_case(kind, case));
-        case += 1;
-    }
-    tally
+// A sheet of so many units with one step, which has that upper set.
+fn report_upper(name: &[u8], units: usize, upper: u64)
+    requires { ⌜ units < 256 ⌝ }
+{
+    let mut bytes = [0u8; SPACE];
+    put_numbers(&mut bytes, units, 1);
+    put_link(&mut bytes, 0, 1);
+    put_limits(&mut bytes, 1, any_of(upper));
+    report(name, &bytes, ONE_RECORD);
 }
 
-// Tries a kind, writes its line, and gives the tally so far with it.
-fn report(so_far: Tally, name: &[u8], kind: Kind) -> Tally {
-    let tally = try_kind(kind);
-    tally.write(name);
-    so_far.plus(tally)
-}
-
-// Reports a fault of the header.
-fn report_header(so_far: Tally, name: &[u8], fault: usize) -> Tally {
-    report(so_far, name, Kind::Header(fault))
-}
-
-// Reports a fault of a step.
-fn report_step(so_far: Tally, name: &[u8], fault: usize) -> Tally {
-    report(so_far, name, Kind::Step(fault))
-}
-
-// Reports the faults of the header, in the order in which the reader looks for them.
-fn report_headers(so_far: Tally) -> Tally {
-    let mut all = so_far;
-    all = report_header(all, b"shorter than a header", header::CUT_SHORT);
-    all = report_header(all, b"longer than any sheet", header::TOO_LONG);
-    all = report_header(all, b"a wrong letter", header::LETTER);
-    all = report_header(all, b"a wrong edition", header::EDITION);
-    all = report_header(all, b"no units", header::NO_UNITS);
-    all = report_header(all, b"more than 64 units", header::MANY_UNITS);
-    all = report_header(all, b"more than 256 records", header::MANY_RECORDS);
-    all = report_header(all, b"a reserved byte not zero", header::NOT_ZERO);
-    all = report_header(all, b"a start unit too high", header::START);
-    all = report_header(all, b"longer than its records", header::LONGER);
-    report_header(all, b"shorter than its records", header::SHORTER)
-}
-
-// Reports the faults of the chain and of the steps.
-fn report_records(so_far: Tally) -> Tally {
-    let mut all = so_far;
-    all = report(all, b"first record not there", Kind::FirstLink);
-    all = report(all, b"next record not there", Kind::Link(chain::OUT));
-    all = report(all, b"next record met before", Kind::Link(chain::BACK));
-    all = report_step(all, b"an upper unit too high", steps::HIGH_UNIT);
-    all = report_step(all, b"lower set not within upper", steps::NOT_WITHIN);
-    all = report_step(all, b"least above greatest", steps::LEAST_ABOVE_GREATEST);
-    all = report_step(all, b"lower set too large", steps::LOWER_TOO_LARGE);
-    report_step(all, b"upper set too small", steps::UPPER_TOO_SMALL)
-}
-
-// Reports two faults in one sheet, of which the earlier must be given.
-fn report_pairs(so_far: Tally) -> Tally {
-    let mut all = so_far;
-    all = report(all, b"two faults in the header", Kind::TwoInHeader);
-    all = report(all, b"faults in header and link", Kind::HeaderAndLink);
-    all = report(all, b"faults in header and step", Kind::HeaderAndStep);
-    all = report(all, b"faults in two links", Kind::TwoLinks);
-    all = report(all, b"faults in link and step", Kind::LinkAndStep);
-    all = report(all, b"faults in two steps", Kind::TwoSteps);
-    report(all, b"two faults in one step", Kind::TwoInStep)
-}
-
-// Tries everything, and writes a line for each kind and one for all.
 fn main() {
-    let fixed = fixed::try_all();
-    fixed.write(b"fixed sheets");
-    let sound = report(fixed, b"sound sheets", Kind::Sound);
-    let all = report_pairs(report_records(report_headers(sound)));
-    all.write(b"in all");
+    report_lengths();
+    report_upper(b"d = 64, upper all ones", 64, u64::MAX);
+    report_upper(b"d = 63, unit 63 in upper", 63, 1 << 63);
 }

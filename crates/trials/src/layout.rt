@@ -35,14 +35,14 @@ pub fn length_of(records: usize) -> usize
 }
 
 // Puts a byte at that place.
-pub fn put_byte(bytes: &mut Space, at: usize, value: u8)
+fn put_byte(bytes: &mut Space, at: usize, value: u8)
     requires { ⌜ at < 6192 ⌝ }
 {
     bytes[at] = value;
 }
 
 // Puts a number of two bytes, the lower first.
-pub fn put_u16(bytes: &mut Space, at: usize, value: usize)
+fn put_u16(bytes: &mut Space, at: usize, value: usize)
     requires { ⌜ (at + 2 ≤ 6192) × (value < 65536) ⌝ }
 {
     put_byte(bytes, at, (value % 256) as u8);
@@ -50,7 +50,7 @@ pub fn put_u16(bytes: &mut Space, at: usize, value: usize)
 }
 
 // Puts a number of four bytes, the lower first.
-pub fn put_u32(bytes: &mut Space, at: usize, value: usize)
+fn put_u32(bytes: &mut Space, at: usize, value: usize)
     requires { ⌜ (at + 4 ≤ 6192) × (value < 2 ^ 32) ⌝ }
 {
     put_u16(bytes, at, value % 65536);
@@ -58,7 +58,7 @@ pub fn put_u32(bytes: &mut Space, at: usize, value: usize)
 }
 
 // Puts a set, of eight bytes.
-pub fn put_set(bytes: &mut Space, at: usize, units: u64)
+fn put_set(bytes: &mut Space, at: usize, units: u64)
     requires { ⌜ at + 8 ≤ 6192 ⌝ }
 {
     put_u32(bytes, at, (units % 4294967296) as usize);
