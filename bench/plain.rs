@@ -1,5 +1,5 @@
 // The four entries in plain Rust: the same checks, walks, scans and replies as the library, for comparison. docs/FORMAT.md has the sheet,
-// the refusals and the planner. The chart is in plain_chart.rs; it uses the columns of the plan, where the library fills them twice.
+// the refusals and the planner. The chart is in plain_chart.rs; it uses the columns of the plan.
 #![forbid(unsafe_code)]
 use crate::library::{Reply, Step, StepsReply, STEPS};
 use crate::plain_chart;

@@ -1,4 +1,4 @@
-// The chart in plain Rust, from the same tables as the library's (crates/chart/specs/Tables.antt says what each holds). With two switches or more to
+// The chart in plain Rust, from the same tables as the library's (crates/tables/specs/Tables.antt says what each holds). With two switches or more to
 // spare a step decides alone. With fewer, a forward pass keeps the rows after every sixteenth step; then the blocks of sixteen steps are taken from
 // the last to the first: the rows of a block are made anew from those kept before it, and its words are read on the way back.
 #![forbid(unsafe_code)]

@@ -98,7 +98,7 @@ typedef struct {
  * the whole output on a refusal. An output of WARM_STEPS places is always enough. Where several plans have as few warm-ups, FindSupport's is handed
  * out (docs/FORMAT.md), always the same.
  * Takes three walks along the chain, and for each step at most one look at it and at each step after it: n * (n + 1) / 2 looks for n steps. Uses at
- * most 7,168 bytes of stack.
+ * most 11,264 bytes of stack.
  */
 warm_reply warm_plan(const uint8_t *sheet, size_t sheet_len, uint64_t *plan, size_t plan_len);
 
@@ -114,7 +114,7 @@ warm_reply warm_chart(const uint8_t *sheet, size_t sheet_len, uint64_t *on, size
 /*
  * Whether a plan that was made elsewhere is allowed and has a total of at most the bound, and that total, allowed or not. In the total, units that
  * the sheet has not count like any other. Writes to no lent memory.
- * Takes three walks along the chain, and one through the plan. Uses at most 5,120 bytes of stack.
+ * Takes three walks along the chain, and one through the plan. Uses at most 9,216 bytes of stack.
  */
 warm_reply warm_verdict(const uint8_t *sheet, size_t sheet_len, const uint64_t *plan, size_t plan_len);
 

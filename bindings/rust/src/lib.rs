@@ -53,7 +53,7 @@
 //! enough; one that is too short is refused with the number that it takes.
 //!
 //! No call allocates, blocks, prints or keeps state, so threads may call at will. A call takes less than a millisecond on the largest
-//! sheets. It needs at most 32,768 bytes of stack; all but [`chart`] need at most 7,168.
+//! sheets. It needs at most 32,768 bytes of stack; all but [`chart`] need at most 11,264.
 //!
 //! # Linking
 //!

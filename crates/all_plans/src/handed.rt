@@ -3,8 +3,8 @@ use super::plans::Plan;
 use super::plans::is_feasible;
 use super::plans::total_of;
 use super::small::Small;
+use promises::Reply;
 use trials::tally::Tally;
-use warm::Reply;
 use warm::planning::warm_plan;
 
 // What a lent place holds before a call.

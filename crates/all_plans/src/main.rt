@@ -18,7 +18,6 @@ use trials::layout::SPACE;
 use trials::layout::Space;
 use trials::layout::length_of;
 use trials::tally::Tally;
-ghost use Prim.Native.Nat.{_≤_};
 
 // How many times the limits of the steps are drawn. Each time is tried with every start set, and with each of these with up to 4 bounds.
 const CASES: usize = 3480;

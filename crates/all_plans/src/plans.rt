@@ -88,7 +88,8 @@ fn alike(units: usize, k: usize) -> usize
 // The plan to look at after plan p, whose last fault is given. No plan with the same sets from that step on is feasible, and p is the first of
 // these that is come to, with empty sets before the step: all of them are passed over.
 pub fn after(units: usize, p: usize, fault: usize) -> usize
-    requires { ⌜ (p < 33554432) × (fault ≤ 6) ⌝ }
+    requires { ⌜ p < 33554432 ⌝ }
+    requires { ⌜ fault ≤ 6 ⌝ }
     ensures { λ r. ⌜ p < r ⌝ }
 {
     if fault < 2 {

@@ -31,7 +31,8 @@ const LARGE: usize = 480;
 
 // The number of units, each as often as the others.
 pub fn units_of(case: usize) -> usize
-    ensures { λ r. ⌜ (0 < r) × (r ≤ 4) ⌝ }
+    ensures { λ r. ⌜ 0 < r ⌝ }
+    ensures { λ r. ⌜ r ≤ 4 ⌝ }
 {
     if LARGE <= case {
         return 3 + case % 2;
@@ -57,7 +58,8 @@ fn steps_of(case: usize) -> usize
 
 // How many sets of the units there are.
 pub fn sets_of(units: usize) -> usize
-    ensures { λ r. ⌜ (1 < r) × (r ≤ 16) ⌝ }
+    ensures { λ r. ⌜ 1 < r ⌝ }
+    ensures { λ r. ⌜ r ≤ 16 ⌝ }
 {
     match units {
         1 => 2,
@@ -97,7 +99,8 @@ fn banned(units: u64, case: usize, k: usize) -> u64 {
 
 // The larger of two sizes.
 fn larger(a: usize, b: usize) -> usize
-    requires { ⌜ (a ≤ 4) × (b ≤ 4) ⌝ }
+    requires { ⌜ a ≤ 4 ⌝ }
+    requires { ⌜ b ≤ 4 ⌝ }
     ensures { λ r. ⌜ r ≤ 4 ⌝ }
 {
     if a < b { b } else { a }

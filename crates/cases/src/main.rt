@@ -18,7 +18,8 @@ const ONE_RECORD: usize = Sheet::HEADER_SIZE + Sheet::RECORD_SIZE;
 
 // Puts a header with so many units and records.
 fn put_numbers(bytes: &mut Space, units: usize, records: usize)
-    requires { ⌜ (units < 256) × (records < 65536) ⌝ }
+    requires { ⌜ units < 256 ⌝ }
+    requires { ⌜ records < 65536 ⌝ }
 {
     put_head(
         bytes,

@@ -1,31 +1,26 @@
 -- The backward walk over the steps: tables that agree on the units held give the same words and the same tables before the step.
-use mathlib.Core.Path.{_≡_, refl, ap, ap₂, _∙_}
+use mathlib.Core.Path.{_≡_, ap, ap₂, _∙_}
 use mathlib.Core.Logic.{_⊎_, inl, inr}
 use mathlib.Core.Bool.{Bool, cond, not, _&&_, _||_}
 use mathlib.Core.List.{List}
-use Prim.Native.Nat.{ℕ, zero, suc, _+_, _≤_, _<_}
-use native.Mathlib.Decide.{ℕ-discrete, decLt}
+use Prim.Native.Nat.{ℕ, suc, _≤_, _<_}
 use native.Mathlib.Nat.{zero-add}
 use native.Mathlib.Omega.{arith}
-use lib.ListN.{length, getD, drop, set, length-set, drop-of-length-le}
-use lib.Seq.{drop-cons, getD-set-same, getD-set-other}
-use Rattle.units.specs.Sets.{bit, union, intersection, difference, contains}
+use lib.ListN.{length, getD, drop, drop-of-length-le}
+use lib.Seq.{drop-cons}
+use Rattle.units.specs.Sets.{bit, union, intersection, difference, meets, all, contains}
 use Rattle.units.proofs.Sets.{bit-cases, bit-difference, bit-le}
-use Rattle.switch.specs.Columns.{bare, limits, setsOf, columns, Columns}
-use Rattle.switch.specs.Switch.{Limits}
-use Rattle.switch.proofs.Planning.{steps-length, steps-at}
-use Rattle.chart.specs.declared.back.Turn.{Turn}
-use Rattle.chart.specs.Backs.{limitsOf}
-use Rattle.chart.specs.Blocks.{TurnAt, Agree}
-use Rattle.chart.specs.Places.{Kept, laterIn, Between}
-use Rattle.chart.specs.Tables.{meets, all, held, free, more, less, turned, setAt, stepAt, heldAt, rowsAt, Later, ended, savesBefore, sparedBefore, evenRow, gainRow, evenBefore, gainBefore, stepped, laterFrom, inPlace, onWord, offWord, laterAt, onAt, offAt}
-use Rattle.chart.proofs.Blocks.{sets-at}
-use Rattle.chart.proofs.Prefix.{steps-from}
-use Rattle.chart.proofs.Words.{contains-in, contains-out, gathered-same, passing-same}
+use Rattle.plans.specs.Rows.{stepAt}
+use Rattle.plans.specs.declared.Limits.{Limits}
+use Rattle.plans.proofs.Laid.{steps-from}
+use Rattle.tables.specs.Places.{laterIn}
+use Rattle.tables.specs.Tables.{held, free, more, less, setAt, heldAt, rowsAt, Later, ended, savesBefore, sparedBefore, evenRow, gainRow, evenBefore, gainBefore, stepped, laterFrom, inPlace, onWord, offWord, laterAt, onAt, offAt}
+use Rattle.tables.proofs.Words.{contains-in, contains-out, gathered-same, passing-same}
+use Rattle.chart.specs.Blocks.{SameOn}
 
 -- ---- tables that agree
 
-module _ (s : Limits) (p t : ℕ) (v w : Later) (a : Agree (held s t) v w) where
+module _ (s : Limits) (p t : ℕ) (v w : Later) (a : SameOn (held s t) v w) where
   -- the same words
   module _ (tight : Bool) (f g : ℕ → ℕ) (same : (b : ℕ) → b < 64 → bit (held s t) b ≡ 1 → f b ≡ g b) where
     place-same : (b : ℕ) → b < 64 → bit (held s t) b ≡ 1 → inPlace tight f v b ≡ inPlace tight g w b
@@ -83,41 +78,7 @@ module _ (s : Limits) (p t : ℕ) (v w : Later) (a : Agree (held s t) v w) where
   unfolding gainBefore gainRow
   gain-same b h = rw (saves-same, spared-same, row-agrees (v .gain) (w .gain) b (free s t) (a .gain b h))
 
--- ---- words between two places
-
-module _ {last : ℕ} {word : ℕ → ℕ} where
-  pub between-none : (l : List ℕ) → Between last last word l l
-  between-none l = record { same-long = refl; written = λ i h k. absurd (omega arith); before = λ k h. refl; after = λ i h. refl }
-
-  -- one place more
-  pub between-on : {first : ℕ} {l m : List ℕ} → Between (suc first) last word l m → first < last → first < length l → (x : ℕ) → x ≡ word first
-      → Between first last word l (set m first x)
-  between-on {first} {l} {m} b h k x e = record {
-    same-long = length-set m first x ∙ b .same-long;
-    written = λ i f g. go i f g (ℕ-discrete i first);
-    before = λ i f. getD-set-other m first i x 0 (λ q. omega arith) ∙ b .before i (omega arith);
-    after = λ i f. getD-set-other m first i x 0 (λ q. omega arith) ∙ b .after i f;
-  }
-    where
-      go : (i : ℕ) → first ≤ i → i < last → Dec (i ≡ first) → getD (set m first x) i 0 ≡ word i
-      go i f g (yes q) = rw q (getD-set-same m first x 0 (omega (arith, b .same-long)) ∙ e)
-      go i f g (no n) = getD-set-other m first i x 0 n ∙ b .written i (omega arith) g
-
-  -- the places before them too
-  pub between-join : {first middle : ℕ} {k l m : List ℕ} → first ≤ middle → middle ≤ last → Between middle last word k l → Between first middle word l m
-      → Between first last word k m
-  between-join {first} {middle} {k} {l} {m} f g x y = record {
-    same-long = y .same-long ∙ x .same-long;
-    written = λ i u v. go i u v (decLt i middle);
-    before = λ i u. y .before i u ∙ x .before i (omega arith);
-    after = λ i u. y .after i (omega arith) ∙ x .after i u;
-  }
-    where
-      go : (i : ℕ) → first ≤ i → i < last → Dec (i < middle) → getD m i 0 ≡ word i
-      go i u v (yes h) = y .written i u h
-      go i u v (no n) = y .after i (omega arith) ∙ x .written i (omega arith) v
-
--- ---- columns as steps
+-- ---- along the plan
 
 -- what is still to come, over one step and after the last
 pub later-on : (start : ℕ) (ss : List Limits) (plan : List ℕ) (i : ℕ) → i < length ss → i < length plan
@@ -129,79 +90,47 @@ pub later-end : (start : ℕ) (ss : List Limits) (plan : List ℕ) (i : ℕ) →
 unfolding laterAt laterFrom
 later-end start ss plan i h = ap (λ rest. laterFrom (setAt start plan i) rest (drop i plan)) (drop-of-length-le ss h)
 
-module _ {lower upper least greatest : List ℕ} (g : Columns lower upper least greatest) (start : ℕ) (plan : List ℕ) where
-  abbrev ss : List Limits
-  ss = columns lower upper least greatest
+module _ (start : ℕ) (ss : List Limits) (plan : List ℕ) (i : ℕ) (h : i < length ss) (k : i < length plan) (w : Later)
+    (a : SameOn (heldAt ss plan (suc i)) w (laterAt start ss plan (suc i))) where
+  -- the step at i, the plan's sets before and after it, and what is still to come
+  abbrev s : Limits
+  s = stepAt ss i
 
-  pub step-of : (i : ℕ) → i < length lower → stepAt ss i ≡ limits (getD lower i 0) (getD upper i 0) (getD least i 0) (getD greatest i 0)
-  unfolding stepAt
-  step-of i h = cc (drop-cons ss i (bare 0 0) (omega (arith, steps-length g)), steps-at g i h)
+  abbrev p : ℕ
+  p = setAt start plan i
 
-  -- the forward tables look at the sets of the steps alone
-  pub held-columns : (i : ℕ) → i ≤ length lower → heldAt (setsOf lower upper) plan i ≡ heldAt ss plan i
-  unfolding heldAt held
-  held-columns zero h = refl
-  held-columns (suc i) h = rw (sets-at lower upper i (g .uppers) (omega arith), step-of i (omega arith))
+  abbrev t : ℕ
+  t = getD plan i 0
 
-  pub rows-columns : (i : ℕ) → i ≤ length lower → rowsAt start (setsOf lower upper) plan i ≡ rowsAt start ss plan i
-  unfolding rowsAt turned free
-  rows-columns zero h = refl
-  rows-columns (suc i) h =
-      rw (sets-at lower upper i (g .uppers) (omega arith), step-of i (omega arith), held-columns i (omega arith), rows-columns i (omega arith))
+  abbrev v : Later
+  v = laterAt start ss plan (suc i)
 
-  -- so the rows in memory are those of the steps
-  pub kept-rows : (i : ℕ) (l : List ℕ) (at : ℕ) → i ≤ length lower → Kept start (setsOf lower upper) plan i l at
-      → (b : ℕ) → b < 64 → bit (heldAt ss plan i) b ≡ 1 → getD l (at + b) 0 ≡ rowsAt start ss plan i b
-  kept-rows i l at h k b u e = rw (held-columns i h, rows-columns i h) at (k b u) e
+  -- it agrees on the units held after the step
+  agrees : SameOn (held s t) w v
+  unfolding heldAt
+  agrees = a
 
-  -- ---- at the step at i
+  -- so do the words of the step
+  module _ (tight : Bool) (f : ℕ → ℕ) (after : (b : ℕ) → b < 64 → bit (heldAt ss plan (suc i)) b ≡ 1 → f b ≡ rowsAt start ss plan (suc i) b) where
+    pub on-here : onWord tight s t f w ≡ onAt tight start ss plan i
+    unfolding onAt setAt heldAt
+    on-here = on-same s p t w v agrees tight f (rowsAt start ss plan (suc i)) after
 
-  module _ (long : length lower ≡ length plan) (i : ℕ) (h : i < length lower) (x : Turn) (at : TurnAt ss plan start i x) (w : Later)
-      (a : Agree (heldAt ss plan (suc i)) w (laterAt start ss plan (suc i))) where
-    -- what is still to come agrees on the units held after the step
-    agrees : Agree (held (stepAt ss i) (getD plan i 0)) w (laterAt start ss plan (suc i))
-    unfolding heldAt
-    agrees = a
+    pub off-here : (us : ℕ) → offWord tight us s t f w ≡ offAt tight us start ss plan i
+    unfolding offAt setAt heldAt
+    off-here us = off-same s p t w v agrees tight f (rowsAt start ss plan (suc i)) after us
 
-    -- so do the words
-    module _ (tight : Bool) (e : ℕ → ℕ)
-        (after : (b : ℕ) → b < 64 → bit (heldAt ss plan (suc i)) b ≡ 1 → e b ≡ rowsAt start ss plan (suc i) b) where
-      pub on-here : onWord tight (limitsOf x) (x .after) e w ≡ onAt tight start ss plan i
-      unfolding onAt setAt heldAt
-      on-here =
-          rw (at .limited, at .after)
-          (on-same (stepAt ss i) (setAt start plan i) (getD plan i 0) w (laterAt start ss plan (suc i)) agrees tight e (rowsAt start ss plan (suc i)) after)
-
-      pub off-here : (us : ℕ) → offWord tight us (limitsOf x) (x .after) e w ≡ offAt tight us start ss plan i
-      unfolding offAt setAt heldAt
-      off-here us =
-          rw (at .limited, at .after)
-          (off-same (stepAt ss i) (setAt start plan i) (getD plan i 0) w (laterAt start ss plan (suc i)) agrees tight e (rowsAt start ss plan (suc i)) after us)
-
-    -- and what is still to come before the step
-    pub agrees-before : (saves spared : ℕ) (even gain : List ℕ) → saves ≡ savesBefore (limitsOf x) (x .before) (x .after) w
-        → spared ≡ sparedBefore (limitsOf x) (x .before) (x .after) w
-        → ((b : ℕ) → bit (x .held) b ≡ 1
-        → (getD even b 0 ≡ evenBefore (limitsOf x) (x .before) (x .after) w b) × (getD gain b 0 ≡ gainBefore (limitsOf x) (x .before) (x .after) w b))
-        → Agree (heldAt ss plan i) (laterIn saves spared even gain) (laterAt start ss plan i)
-    unfolding stepped
-    agrees-before saves spared even gain p q r =
-        rw (later-on start ss plan i (omega (arith, steps-length g)) (omega arith))
-        (record {
-          saves = p ∙ rw (at .limited, at .before, at .after) (saves-same s b t w v agrees);
-          spared = q ∙ rw (at .limited, at .before, at .after) (spared-same s b t w v agrees);
-          even = λ u l m. ap (λ (k : ℕ). getD even k 0) (zero-add u) ∙ r u (rw (at .held) m) .0 ∙ rw (at .limited, at .before, at .after) (even-same s b t w v agrees u l);
-          gain = λ u l m. ap (λ (k : ℕ). getD gain k 0) (zero-add u) ∙ r u (rw (at .held) m) .1 ∙ rw (at .limited, at .before, at .after) (gain-same s b t w v agrees u l);
-        })
-      where
-        s : Limits
-        s = stepAt ss i
-
-        b : ℕ
-        b = setAt start plan i
-
-        t : ℕ
-        t = getD plan i 0
-
-        v : Later
-        v = laterAt start ss plan (suc i)
+  -- and what is still to come before the step
+  pub agrees-before : (saves spared : ℕ) (even gain : List ℕ) → saves ≡ savesBefore s p t w → spared ≡ sparedBefore s p t w
+      → ((b : ℕ) → bit (heldAt ss plan i) b ≡ 1 → getD even b 0 ≡ evenBefore s p t w b)
+      → ((b : ℕ) → bit (heldAt ss plan i) b ≡ 1 → getD gain b 0 ≡ gainBefore s p t w b)
+      → SameOn (heldAt ss plan i) (laterIn saves spared even gain) (laterAt start ss plan i)
+  unfolding stepped
+  agrees-before saves spared even gain e f g j =
+      rw (later-on start ss plan i h k)
+      (record {
+        saves = e ∙ saves-same s p t w v agrees;
+        spared = f ∙ spared-same s p t w v agrees;
+        even = λ u l m. ap (λ (n : ℕ). getD even n 0) (zero-add u) ∙ g u m ∙ even-same s p t w v agrees u l;
+        gain = λ u l m. ap (λ (n : ℕ). getD gain n 0) (zero-add u) ∙ j u m ∙ gain-same s p t w v agrees u l;
+      })

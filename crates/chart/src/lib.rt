@@ -1,68 +1,54 @@
 // The chart: which units can be on in each step, and which can be off, over all feasible plans within a bound.
-// It is read from two tables, one made forward over the steps and one backward; specs/Tables.antt defines them, and proofs/Exact.antt says that they
-// give the chart. The time is linear in the number of steps and in the number of units that are on. Nothing here is an open entry of the library.
-use far::far;
-use far::units_below;
-use near::near;
+// Its words are read from two tables, one made forward over the steps and one backward; specs/Tables.antt of `tables` defines them, and laws there say that
+// they are the chart. The time is linear in the number of steps and in the number of units that are on. Nothing here is an open entry of the library.
+use ample::ample;
+use scarce::scarce;
 ghost use mathlib.Core.Path.{_≡_};
-ghost use mathlib.Core.List.{_++_};
 ghost use Prim.Native.Nat.{_≤_};
-ghost use lib.ListN.{length, drop};
-ghost use Rattle.switch.specs.Columns.{columns};
-ghost use Rattle.switch.specs.Plans.{canBeOn, canBeOff};
-ghost use Rattle.chart.specs.Solved.{Solved};
+ghost use lib.ListN.{length};
+ghost use lib.Seq.{sets};
+ghost use Rattle.plans.specs.Rows.{stepsIn, Rows};
+ghost use Rattle.tables.specs.Tables.{onSpared, offSpared};
+ghost use Rattle.chart.specs.Joining.{joining};
 
-pub mod back;
-pub mod far;
-pub mod front;
-pub mod near;
-pub mod rows;
+pub mod ample;
+pub mod clear;
+pub mod scarce;
+pub mod whole;
 
-// Fills the first places of `on` with the units that can be on in each step, and those of `off` with the units that can be off, from the plan and
-// its total.
+// Joins the words of the chart to what the first places of the outputs hold, and leaves the others as they were: in `on` the units that can be on in each
+// step, in `off` those of us that can be off. `plan` is the plan that is handed out, and the bound leaves `spare` switches to spare.
 pub fn draw_chart(
-    lower: &[u64],
-    upper: &[u64],
-    least: &[u8],
-    greatest: &[u8],
+    steps: &[u64],
     start: u64,
-    d: u32,
-    bound: u32,
-    total: u32,
+    us: u64,
+    spare: u32,
     plan: &[u64],
     on: &mut [u64],
     off: &mut [u64],
 )
-    requires { ⌜
-        Solved (now lower) (now upper) (now least) (now greatest) start d bound total (now plan)
-        × ((length (now lower) ≤ length (now on)) × (length (now lower) ≤ length (now off)))
+    requires { ⌜ Rows (now steps) ⌝ }
+    requires { ⌜ length (now plan) ≡ length (stepsIn (now steps)) ⌝ }
+    requires { ⌜ length (stepsIn (now steps)) ≤ length (now on) ⌝ }
+    requires { ⌜ length (stepsIn (now steps)) ≤ length (now off) ⌝ }
+    ensures { λ _.
+        ⌜
+        now (on .exit) ≡
+        sets (now (on .entry)) 0
+        (joining (onSpared spare start (stepsIn (now (steps .entry))) (now (plan .entry))) (now (on .entry)) 0
+        (length (stepsIn (now (steps .entry)))))
         ⌝ }
     ensures { λ _.
         ⌜
-        (now (on .exit) ≡
-        canBeOn d bound start (columns (now (lower .entry)) (now (upper .entry)) (now (least .entry)) (now (greatest .entry)))
-        ++ drop (length (now (lower .entry))) (now (on .entry)))
-        × (now (off .exit) ≡
-        canBeOff d bound start (columns (now (lower .entry)) (now (upper .entry)) (now (least .entry)) (now (greatest .entry)))
-        ++ drop (length (now (lower .entry))) (now (off .entry)))
+        now (off .exit) ≡
+        sets (now (off .entry)) 0
+        (joining (offSpared us spare start (stepsIn (now (steps .entry))) (now (plan .entry))) (now (off .entry)) 0
+        (length (stepsIn (now (steps .entry)))))
         ⌝ }
 {
-    let spare = bound - total;
     if 1 < spare {
-        far(lower, upper, least, greatest, d, on, off);
+        ample(steps, us, on, off);
         return;
     }
-    let us = units_below(d);
-    near(
-        lower,
-        upper,
-        least,
-        greatest,
-        plan,
-        start,
-        spare == 0,
-        us,
-        on,
-        off,
-    )
+    scarce(steps, plan, start, spare == 0, us, on, off)
 }

@@ -6,7 +6,7 @@ use native.Mathlib.Numerals.{add-one}
 use native.Mathlib.Omega.{arith}
 use lib.ListN.{length, length-append, set, getD, take, drop}
 use lib.Seq.{sets, sets-eq, length-sets, take-suc}
-use Rattle.warm.specs.Entries.{written}
+use Rattle.promises.specs.Common.{written}
 use Rattle.listing.specs.Placed.{Placed}
 
 sets-append : (l : List ℕ) (i : ℕ) (a b : List ℕ) → sets (sets l i a) (i + length a) b ≡ sets l i (a ++ b)

@@ -6,7 +6,7 @@ use native.Mathlib.Numerals.{add-one}
 use native.Mathlib.Omega.{arith}
 use lib.ListN.{length, length-append, getD, drop}
 use lib.Seq.{drop-cons}
-use Rattle.switch.specs.Switch.{switches}
+use Rattle.plans.specs.Switch.{switches}
 use Rattle.listing.specs.Digits.{decimal, hexadecimal}
 use Rattle.listing.specs.Lines.{field, blank, lineEnd, stepLine, stepLines}
 use Rattle.listing.specs.Placed.{Placed}

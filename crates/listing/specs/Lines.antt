@@ -1,12 +1,14 @@
 -- The listing of a sheet: its plan or its refusal, as text.
-use Prim.Native.Nat.{ℕ, _+_}
+use Prim.Native.Nat.{ℕ, _+_, _*_}
 use mathlib.Core.List.{List, [], _∷_, _++_}
 use lib.ListN.{length}
-use Rattle.sheet.specs.Answer.{Answer, Refused, Given, unless}
-use Rattle.sheet.specs.Format.{unitsOf, boundOf, startOf}
-use Rattle.sheet.specs.Reading.{stepsOf, readCauses}
-use Rattle.switch.specs.Switch.{switches, total}
-use Rattle.warm.specs.Entries.{supportOn, boundCauses, written}
+use Rattle.format.specs.Answer.{Answer, Refused, Given, unless}
+use Rattle.format.specs.Format.{unitsOf, boundOf, startOf}
+use Rattle.format.specs.Reading.{stepsOf, readCauses}
+use Rattle.plans.specs.Switch.{switches, total}
+use Rattle.plans.specs.Rows.{stepLimit}
+use Rattle.promises.specs.Plan.{supportOn, boundCauses}
+use Rattle.promises.specs.Common.{written}
 use Rattle.listing.specs.Digits.{decimal, hexadecimal}
 
 -- ---- words
@@ -38,6 +40,23 @@ abbrev pub lineEnd : List ℕ
 lineEnd = 10 ∷ []
 
 -- ---- lines
+
+-- the most bytes of a line: the first, with three numbers of 32 bits, that of a step, the last, and that of a refusal
+abbrev pub firstMost : ℕ
+firstMost = 51
+
+abbrev pub stepMost : ℕ
+stepMost = 24
+
+abbrev pub totalMost : ℕ
+totalMost = 17
+
+abbrev pub refusedMost : ℕ
+refusedMost = 30
+
+-- and of a listing, which has at most 256 lines of steps
+abbrev pub longestListing : ℕ
+longestListing = firstMost + stepLimit * stepMost + totalMost
 
 -- a word and a number
 abbrev pub field : List ℕ → ℕ → List ℕ

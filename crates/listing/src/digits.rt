@@ -18,7 +18,8 @@ struct Pair {
 // The two hexadecimal digits of a byte.
 fn pair_of(byte: usize) -> Pair
     requires { ⌜ byte < 256 ⌝ }
-    ensures { λ r. ⌜ (r .high ≡ digit (byte / 16)) × (r .low ≡ digit (byte % 16)) ⌝ }
+    ensures { λ r. ⌜ r .high ≡ digit (byte / 16) ⌝ }
+    ensures { λ r. ⌜ r .low ≡ digit (byte % 16) ⌝ }
 {
     Pair {
         high: PAIRS[2 * byte],
@@ -37,7 +38,8 @@ pub(crate) fn put_byte(x: u8, out: &mut [u8], at: usize) -> usize
 
 // Puts a decimal digit, and gives the place after it.
 fn put_digit(x: u32, out: &mut [u8], at: usize) -> usize
-    requires { ⌜ (x < 10) × (at < length (now out)) ⌝ }
+    requires { ⌜ x < 10 ⌝ }
+    requires { ⌜ at < length (now out) ⌝ }
     ensures { λ r. ⌜ Placed (digit x ∷ []) (now (out .entry)) at (now (out .exit)) r ⌝ }
 {
     put_byte(48 + x as u8, out, at)
@@ -57,7 +59,8 @@ pub(crate) fn put_decimal(x: u32, out: &mut [u8], at: usize) -> usize
 
 // Puts the two hexadecimal digits of a byte, and gives the place after them.
 fn put_pair(byte: usize, out: &mut [u8], at: usize) -> usize
-    requires { ⌜ (byte < 256) × (at + 2 ≤ length (now out)) ⌝ }
+    requires { ⌜ byte < 256 ⌝ }
+    requires { ⌜ at + 2 ≤ length (now out) ⌝ }
     ensures { λ r. ⌜ Placed (digit (byte / 16) ∷ digit (byte % 16) ∷ []) (now (out .entry)) at (now (out .exit)) r ⌝ }
 {
     let pair = pair_of(byte);

@@ -3,50 +3,63 @@
 mod digits;
 mod lines;
 
+use campaign::plan_read;
+use format::Summary;
+use lines::FIRST_LINE;
+use lines::STEP_LINE;
+use lines::TOTAL_LINE;
 use lines::put_first_line;
 use lines::put_refused_line;
 use lines::put_step_lines;
 use lines::put_total_line;
+use plans::Limits;
 use sheet::ReadAnswer;
-use sheet::Summary;
-use warm::planning::warm_plan;
+use sheet::Sheet;
 ghost use mathlib.Core.Path.{_≡_};
-ghost use Prim.Native.Nat.{_≤_};
+ghost use Prim.Native.Nat.{_*_, _≤_};
 ghost use lib.ListN.{length, take};
-ghost use Rattle.sheet.specs.Answer.{Given};
-ghost use Rattle.sheet.specs.Told.{summaryRead};
-ghost use Rattle.listing.specs.Lines.{planLines, listing, listPlan};
+ghost use Rattle.plans.specs.Rows.{rowSize};
+ghost use Rattle.format.specs.Answer.{Given};
+ghost use Rattle.format.specs.Format.{recordLimit};
+ghost use Rattle.format.specs.Stages.{summaryRead};
+ghost use Rattle.listing.specs.Lines.{longestListing, planLines, listing, listPlan};
 ghost use Rattle.listing.specs.Placed.{Placed};
 
-// No listing is longer: a first line of at most 51 bytes (three numbers of 32 bits), at most 256 lines of at most 24, and a last line of at most 17.
-pub const LONGEST: usize = 51 + 256 * 24 + 17;
+// No listing is longer: a first line, at most 256 lines of steps, and a last line.
+pub const LONGEST: usize = FIRST_LINE + Sheet::RECORD_LIMIT * STEP_LINE + TOTAL_LINE;
 
 // Puts the lines of a plan, which stands in the first places of `sets`, with its total, and gives their length.
 fn put_plan(x: Summary, sets: &[u64], total: u32, out: &mut [u8]) -> usize
-    requires { ⌜ (x .steps ≤ 256) × ((x .steps ≤ length (now sets)) × (6212 ≤ length (now out))) ⌝ }
+    requires { ⌜ x .steps ≤ recordLimit ⌝ }
+    requires { ⌜ x .steps ≤ length (now sets) ⌝ }
+    requires { ⌜ longestListing ≤ length (now out) ⌝ }
     ensures { λ r.
         ⌜
-        Placed (planLines (x .units) (x .steps) (x .bound) (x .start) (take (x .steps) (now (sets .entry))) total)
+        Placed (planLines (x .header .units) (x .steps) (x .header .bound) (x .header .start) (take (x .steps) (now (sets .entry))) total)
         (now (out .entry)) 0 (now (out .exit)) r
         ⌝ }
 {
+    let h = x.header;
     let n = x.steps as usize;
-    let after_first = put_first_line(x.units, x.steps, x.bound, out, 0);
-    let after_steps = put_step_lines(x.start, &sets[0..n], out, after_first);
+    let after_first = put_first_line(h.units, x.steps, h.bound, out, 0);
+    let after_steps = put_step_lines(h.start, &sets[0..n], out, after_first);
     put_total_line(total, out, after_steps)
 }
 
-// Puts the listing of a sheet that was read, and gives its length.
-fn list_read(sheet: &[u8], x: Summary, out: &mut [u8]) -> usize
-    requires { ⌜ (summaryRead (now sheet) ≡ Given x) × (6212 ≤ length (now out)) ⌝ }
+// Puts the listing of a sheet that was read, and gives its length. It works in `rows` and `sets`.
+fn list_read(sheet: &[u8], x: Summary, rows: &mut [u64], sets: &mut [u64], out: &mut [u8]) -> usize
+    requires { ⌜ summaryRead (now sheet) ≡ Given x ⌝ }
+    requires { ⌜ rowSize * x .steps ≤ length (now rows) ⌝ }
+    requires { ⌜ x .steps ≤ length (now sets) ⌝ }
+    requires { ⌜ longestListing ≤ length (now out) ⌝ }
     ensures { λ r. ⌜ Placed (listing (now (sheet .entry))) (now (out .entry)) 0 (now (out .exit)) r ⌝ }
 {
-    let mut sets = [0u64; 256];
-    let reply = warm_plan(sheet, &mut sets);
-    if reply.refusal != 0 {
-        return put_refused_line(reply.refusal, reply.place, out, 0);
+    let header = x.header;
+    let total = plan_read(sheet, x, rows, sets);
+    if header.bound < total {
+        return put_refused_line(9, total, out, 0);
     }
-    put_plan(x, &sets, reply.total, out)
+    put_plan(x, sets, total, out)
 }
 
 // Puts the listing of any bytes into the first places of the output, and gives its length.
@@ -55,6 +68,10 @@ pub fn list_plan(sheet: &[u8], out: &mut [u8; LONGEST]) -> usize
 {
     match sheet::open::read(sheet) {
         ReadAnswer::Refused(x) => put_refused_line(x.number, x.place, out, 0),
-        ReadAnswer::Read(x) => list_read(sheet, x, out),
+        ReadAnswer::Read(x) => {
+            let mut rows = [0u64; Limits::WORDS * Sheet::RECORD_LIMIT];
+            let mut sets = [0u64; Sheet::RECORD_LIMIT];
+            list_read(sheet, x, &mut rows, &mut sets, out)
+        }
     }
 }

@@ -7,9 +7,17 @@ use units::size;
 ghost use mathlib.Core.List.{_++_};
 ghost use Prim.Native.Nat.{_+_, _*_, _≤_, _<_};
 ghost use lib.ListN.{length};
+ghost use Rattle.plans.specs.Rows.{stepLimit};
 ghost use Rattle.listing.specs.Digits.{decimal};
-ghost use Rattle.listing.specs.Lines.{firstLine, stepLine, stepLines, totalLine, refusedLine};
+ghost use Rattle.listing.specs.Lines.{firstMost, stepMost, totalMost, refusedMost, firstLine, stepLine, stepLines, totalLine, refusedLine};
 ghost use Rattle.listing.specs.Placed.{Placed};
+
+// The most bytes of the line of a listing: the first, with three numbers of 32 bits, that of a step, the last, and that of a refusal.
+pub(crate) const FIRST_LINE: usize = 51;
+
+pub(crate) const STEP_LINE: usize = 24;
+
+pub(crate) const TOTAL_LINE: usize = 17;
 
 // A text as it is.
 fn put_text(text: &[u8], out: &mut [u8], at: usize) -> usize
@@ -35,8 +43,9 @@ fn put_field(text: &[u8], x: u32, out: &mut [u8], at: usize) -> usize
 
 // "units 3 steps 4 bound 3".
 pub(crate) fn put_first_line(units: u32, steps: u32, bound: u32, out: &mut [u8], at: usize) -> usize
-    requires { ⌜ at + 51 ≤ length (now out) ⌝ }
-    ensures { λ r. ⌜ Placed (firstLine units steps bound) (now (out .entry)) at (now (out .exit)) r × (r ≤ at + 51) ⌝ }
+    requires { ⌜ at + firstMost ≤ length (now out) ⌝ }
+    ensures { λ r. ⌜ Placed (firstLine units steps bound) (now (out .entry)) at (now (out .exit)) r ⌝ }
+    ensures { λ r. ⌜ r ≤ at + firstMost ⌝ }
 {
     let after_units = put_field(b"units ", units, out, at);
     let after_steps = put_field(b" steps ", steps, out, after_units);
@@ -46,7 +55,9 @@ pub(crate) fn put_first_line(units: u32, steps: u32, bound: u32, out: &mut [u8],
 
 // "1 0000000000000001 1": the step, the set that is on and its switches.
 fn put_step_line(step: u32, set: u64, many: u32, out: &mut [u8], at: usize) -> usize
-    requires { ⌜ ((step < 1000) × (many < 100)) × (at + 24 ≤ length (now out)) ⌝ }
+    requires { ⌜ step < 1000 ⌝ }
+    requires { ⌜ many < 100 ⌝ }
+    requires { ⌜ at + stepMost ≤ length (now out) ⌝ }
     ensures { λ r. ⌜ Placed (stepLine step set many) (now (out .entry)) at (now (out .exit)) r ⌝ }
 {
     let after_step = put_decimal(step, out, at);
@@ -58,12 +69,10 @@ fn put_step_line(step: u32, set: u64, many: u32, out: &mut [u8], at: usize) -> u
 
 // The lines of all steps of a plan, where `start` is on before it.
 pub(crate) fn put_step_lines(start: u64, plan: &[u64], out: &mut [u8], at: usize) -> usize
-    requires { ⌜ (length (now plan) ≤ 256) × (at + 24 * length (now plan) ≤ length (now out)) ⌝ }
-    ensures { λ r.
-        ⌜
-        Placed (stepLines 1 start (now (plan .entry))) (now (out .entry)) at (now (out .exit)) r
-        × (r ≤ at + 24 * length (now (plan .entry)))
-        ⌝ }
+    requires { ⌜ length (now plan) ≤ stepLimit ⌝ }
+    requires { ⌜ at + stepMost * length (now plan) ≤ length (now out) ⌝ }
+    ensures { λ r. ⌜ Placed (stepLines 1 start (now (plan .entry))) (now (out .entry)) at (now (out .exit)) r ⌝ }
+    ensures { λ r. ⌜ r ≤ at + stepMost * length (now (plan .entry)) ⌝ }
 {
     let mut before = start;
     let mut next = at;
@@ -80,7 +89,7 @@ pub(crate) fn put_step_lines(start: u64, plan: &[u64], out: &mut [u8], at: usize
 
 // "total 3".
 pub(crate) fn put_total_line(many: u32, out: &mut [u8], at: usize) -> usize
-    requires { ⌜ at + 17 ≤ length (now out) ⌝ }
+    requires { ⌜ at + totalMost ≤ length (now out) ⌝ }
     ensures { λ r. ⌜ Placed (totalLine many) (now (out .entry)) at (now (out .exit)) r ⌝ }
 {
     let after_many = put_field(b"total ", many, out, at);
@@ -89,7 +98,7 @@ pub(crate) fn put_total_line(many: u32, out: &mut [u8], at: usize) -> usize
 
 // "refused 9 3": the number and the place.
 pub(crate) fn put_refused_line(number: u32, place: u32, out: &mut [u8], at: usize) -> usize
-    requires { ⌜ at + 30 ≤ length (now out) ⌝ }
+    requires { ⌜ at + refusedMost ≤ length (now out) ⌝ }
     ensures { λ r. ⌜ Placed (refusedLine number place) (now (out .entry)) at (now (out .exit)) r ⌝ }
 {
     let after_number = put_field(b"refused ", number, out, at);

@@ -48,7 +48,8 @@ fn try_no_step() -> Tally {
 
 // Puts into record j a step that needs one of three units and allows two, and its link.
 fn put_run(bytes: &mut Space, j: usize, lower: u64, next: usize)
-    requires { ⌜ (j ≤ 256) × (next < 65536) ⌝ }
+    requires { ⌜ j ≤ 256 ⌝ }
+    requires { ⌜ next < 65536 ⌝ }
 {
     put_limits(
         bytes,
@@ -110,7 +111,8 @@ fn put_halves(bytes: &mut Space) {
 
 // Whether the line stands in the text at that place.
 fn is_at(text: &Text, at: usize, line: &[u8]) -> bool
-    requires { ⌜ (at ≤ 6175) × (length (now line) ≤ 31) ⌝ }
+    requires { ⌜ at ≤ 6175 ⌝ }
+    requires { ⌜ length (now line) ≤ 31 ⌝ }
 {
     let whole: &[u8] = text;
     check::same(&whole[at..at + line.len()], line)

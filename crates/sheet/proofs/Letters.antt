@@ -6,8 +6,8 @@ use Prim.Native.Nat.{ℕ, _≤_}
 use native.Mathlib.Omega.{arith}
 use lib.Dec.{eqb}
 use lib.ListN.{length, getD}
-use Rattle.sheet.specs.Format.{letters, lettersOf}
-use Rattle.sheet.specs.Reading.{same}
+use Rattle.format.specs.Format.{letters, lettersOf}
+use Rattle.format.specs.Reading.{same}
 
 pub spelled : (s : List ℕ) → 4 ≤ length s
     → same (lettersOf s) letters ≡ (eqb (getD s 0 0) 87 && (eqb (getD s 1 0) 65 && (eqb (getD s 2 0) 82 && (eqb (getD s 3 0) 77 && true))))

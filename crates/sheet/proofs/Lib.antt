@@ -1,10 +1,7 @@
--- `Answers` has the laws on choices between a refusal and a value, `Chains` those on the walk, `Filling` those on columns, `Letters` one on the letters that a sheet begins with, `Records` those
--- on the records and their numbers, and `Searches` those on the search for a faulty step.
-pub mod Agreements
-pub mod Answers
-pub mod Chains
+-- `Walks` has the laws on the walk along the chain, `Letters` one on the letters that a sheet begins with. `Along` has what loops along the chain share,
+-- `Searches` the laws on the search for a faulty step, and `Filling` those on the steps as words.
+mod Along
 mod Filling
 mod Letters
-pub mod Readings
-pub mod Records
 mod Searches
+mod Walks

@@ -1,14 +1,15 @@
 // The walk along the chain of records: refusals 4 and 5, or the number of steps.
-use super::Refusal;
 use super::Sheet;
 use super::record::follow;
+use format::Refusal;
 ghost use mathlib.Core.Path.{_≡_};
 ghost use mathlib.Core.Bool.{cond};
 ghost use Prim.Native.Nat.{_≤_, _<_};
 ghost use lib.ListN.{length};
 ghost use Rattle.units.specs.Sets.{insert};
-ghost use Rattle.sheet.specs.Format.{sheetLength, recordLimit};
-ghost use Rattle.sheet.specs.Told.{chainTold, chainRead};
+ghost use Rattle.format.specs.Stages.{chainRead};
+ghost use Rattle.format.specs.Format.{sheetLength, recordLimit};
+ghost use Rattle.sheet.specs.Told.{chainTold};
 ghost use Rattle.sheet.specs.Walking.{isMet, onto};
 
 // How far a walk has come: a mark for each record that it has met, one bit a record, the record that it stands at (0 for the header),
@@ -35,7 +36,8 @@ fn insert_if(asked: bool, s: u64, u: u32) -> u64
 impl Walk {
     // Whether the walk has met record j.
     pub fn has_met(self, j: usize) -> bool
-        requires { ⌜ (0 < j) × (j ≤ recordLimit) ⌝ }
+        requires { ⌜ 0 < j ⌝ }
+        requires { ⌜ j ≤ recordLimit ⌝ }
         ensures { λ r. ⌜ r ≡ isMet self j ⌝ }
     {
         let marks = self.marks;
@@ -46,7 +48,9 @@ impl Walk {
     // The walk one record on, at record j. All four words are written, at constant indices: after a write at a computed one the next step
     // waits for the marks to come back from memory, and a sheet takes half as long again to read.
     pub fn step_onto(self, j: usize) -> Walk
-        requires { ⌜ (0 < j) × (j ≤ recordLimit) × (self .steps < recordLimit) ⌝ }
+        requires { ⌜ 0 < j ⌝ }
+        requires { ⌜ j ≤ recordLimit ⌝ }
+        requires { ⌜ self .steps < recordLimit ⌝ }
         ensures { λ r. ⌜ r ≡ onto self j ⌝ }
     {
         let word = (j - 1) / 64;
@@ -66,7 +70,8 @@ impl Walk {
 
 // How many records are on the chain of a sheet that has `records` records, or the refusal of the first link that leads astray.
 pub fn walk_chain(s: &[u8], records: usize) -> ChainAnswer
-    requires { ⌜ (length (now s) ≡ sheetLength records) × (records ≤ recordLimit) ⌝ }
+    requires { ⌜ length (now s) ≡ sheetLength records ⌝ }
+    requires { ⌜ records ≤ recordLimit ⌝ }
     ensures { λ r. ⌜ chainTold r ≡ chainRead (now (s .entry)) records ⌝ }
 {
     let mut walk = Sheet::open_walk();

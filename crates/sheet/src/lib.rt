@@ -1,10 +1,10 @@
-// The campaign sheet: its layout, and the reader that gives for any bytes either one refusal or what the sheet says.
-// docs/FORMAT.md describes the format. specs/Reading.antt is the definition that the reader is proved to equal.
+// The reader of campaign sheets, which gives for any bytes either one refusal or what the sheet says, and the decoder of a sheet that was read.
+// specs/Reading.antt of `format` is the definition that the reader is proved to equal.
 //
-// The modules follow the data: numbers out of bytes, the header, the chain of records, one record as a step, and the open sheet,
-// which lends the bytes to those. Nothing here is an open entry of the library.
+// The modules follow the data: numbers out of bytes, the header, the chain of records, one record as a step, the open sheet, which lends the bytes to
+// those, and the steps as words for the planner. Nothing here is an open entry of the library.
 pub mod chain;
-pub mod columns;
+pub mod decode;
 pub mod head;
 pub mod numbers;
 pub mod open;
@@ -12,45 +12,16 @@ pub mod record;
 pub mod steps;
 
 use chain::Walk;
+use format::Header;
+use format::Refusal;
+use format::Summary;
 ghost use mathlib.Core.Path.{_≡_};
 ghost use Rattle.sheet.specs.Walking.{atHeader};
-
-// What is sent back in place of a reply: a number of the refusal table, and the place it goes with.
-pub struct Refusal {
-    pub number: u32,
-    pub place: u32,
-}
-
-// The numbers of a header that has passed its checks.
-pub struct Header {
-    pub units: u32,
-    pub records: u32,
-    pub bound: u32,
-    pub start: u64,
-}
-
-// What a sheet that passes the reader says, but for its steps themselves: how many they are stands for them.
-pub struct Summary {
-    pub units: u32,
-    pub steps: u32,
-    pub bound: u32,
-    pub start: u64,
-}
 
 // What the reader answers: a refusal, or what the sheet says.
 pub enum ReadAnswer {
     Refused(Refusal),
     Read(Summary),
-}
-
-// One step of the campaign: a record without its place in the chain.
-#[repr(C)]
-pub struct Step {
-    pub lower: u64,
-    pub upper: u64,
-    pub least: u8,
-    pub greatest: u8,
-    pub tag: u32,
 }
 
 // An open sheet: the lent bytes, and the numbers of their header.
@@ -72,6 +43,30 @@ impl<'a> Sheet<'a> {
     pub const UNIT_LIMIT: u64 = 64;
 
     pub const RECORD_LIMIT: usize = 256;
+    // Where the fields of the header lie.
+    pub const EDITION_AT: usize = 4;
+
+    pub const UNITS_AT: usize = 5;
+
+    pub const RECORDS_AT: usize = 6;
+
+    pub const FIRST_AT: usize = 8;
+
+    pub const BOUND_AT: usize = 10;
+
+    pub const RESERVED_AT: usize = 12;
+
+    pub const START_AT: usize = 16;
+    // And those of a record, of which the first is the lower set.
+    pub const UPPER_AT: usize = 8;
+
+    pub const LEAST_AT: usize = 16;
+
+    pub const GREATEST_AT: usize = 17;
+
+    pub const NEXT_AT: usize = 18;
+
+    pub const TAG_AT: usize = 20;
     // The longest sheet.
     pub const LONGEST: usize = Sheet::RECORD_SIZE * (Sheet::RECORD_LIMIT + 1);
 

@@ -1,5 +1,4 @@
 // The open sheet: the lent bytes with the numbers of their header.
-use super::Header;
 use super::ReadAnswer;
 use super::Sheet;
 use super::chain::ChainAnswer;
@@ -7,18 +6,21 @@ use super::chain::walk_chain;
 use super::head::HeaderAnswer;
 use super::head::read_header;
 use super::steps::search_steps;
+use format::Header;
+use format::Summary;
 ghost use mathlib.Core.Path.{_≡_};
-ghost use Rattle.sheet.specs.Answer.{Given};
-ghost use Rattle.sheet.specs.Told.{headerRead, readTold, summaryRead};
+ghost use Rattle.format.specs.Answer.{Given};
+ghost use Rattle.format.specs.Stages.{headerRead, openRead, summaryRead};
+ghost use Rattle.sheet.specs.Told.{readTold};
 
-// What the records say of a sheet with that header: refusals 4 to 7, or the summary of the campaign.
-pub fn read_records(s: &[u8], h: Header) -> ReadAnswer
+// What the chain says of a sheet with that header: refusals 4 and 5, or the summary.
+pub fn walk_records(s: &[u8], h: Header) -> ReadAnswer
     requires { ⌜ headerRead (now s) ≡ Given h ⌝ }
-    ensures { λ r. ⌜ readTold r ≡ summaryRead (now (s .entry)) ⌝ }
+    ensures { λ r. ⌜ readTold r ≡ openRead (now (s .entry)) ⌝ }
 {
     match walk_chain(s, h.records as usize) {
         ChainAnswer::Refused(x) => ReadAnswer::Refused(x),
-        ChainAnswer::Ended(n) => search_steps(s, h, n),
+        ChainAnswer::Ended(steps) => ReadAnswer::Read(Summary { header: h, steps }),
     }
 }
 
@@ -29,28 +31,38 @@ pub fn open_sheet<'a>(bytes: &'a [u8], header: Header) -> Sheet<'a>
     Sheet { bytes, header }
 }
 
-// What an open sheet says.
-pub fn read_sheet<'a>(sheet: Sheet<'a>) -> ReadAnswer
+// What the chain of an open sheet says.
+pub fn walk_sheet<'a>(sheet: Sheet<'a>) -> ReadAnswer
     requires { ⌜ headerRead (now (sheet .bytes)) ≡ Given (sheet .header) ⌝ }
-    ensures { λ r. ⌜ readTold r ≡ summaryRead (now (sheet .entry .bytes)) ⌝ }
+    ensures { λ r. ⌜ readTold r ≡ openRead (now (sheet .entry .bytes)) ⌝ }
 {
-    read_records(sheet.bytes, sheet.header)
+    walk_records(sheet.bytes, sheet.header)
 }
 
-// What the bytes say, through the open sheet.
-pub fn read_opened(bytes: &[u8], header: Header) -> ReadAnswer
+// What the chain says, through the open sheet.
+pub fn walk_opened(bytes: &[u8], header: Header) -> ReadAnswer
     requires { ⌜ headerRead (now bytes) ≡ Given header ⌝ }
-    ensures { λ r. ⌜ readTold r ≡ summaryRead (now (bytes .entry)) ⌝ }
+    ensures { λ r. ⌜ readTold r ≡ openRead (now (bytes .entry)) ⌝ }
 {
-    read_sheet(open_sheet(bytes, header))
+    walk_sheet(open_sheet(bytes, header))
 }
 
-// What the bytes say: the first refusal of 1 to 7, or the summary of the campaign.
-pub fn read(bytes: &[u8]) -> ReadAnswer
-    ensures { λ r. ⌜ readTold r ≡ summaryRead (now (bytes .entry)) ⌝ }
+// What header and chain say: the first refusal of 1 to 5, or the summary.
+pub fn read_chain(bytes: &[u8]) -> ReadAnswer
+    ensures { λ r. ⌜ readTold r ≡ openRead (now (bytes .entry)) ⌝ }
 {
     match read_header(bytes) {
         HeaderAnswer::Refused(x) => ReadAnswer::Refused(x),
-        HeaderAnswer::Good(h) => read_opened(bytes, h),
+        HeaderAnswer::Good(h) => walk_opened(bytes, h),
+    }
+}
+
+// What the bytes say: the first refusal of 1 to 7, or the summary.
+pub fn read(bytes: &[u8]) -> ReadAnswer
+    ensures { λ r. ⌜ readTold r ≡ summaryRead (now (bytes .entry)) ⌝ }
+{
+    match read_chain(bytes) {
+        ReadAnswer::Refused(x) => ReadAnswer::Refused(x),
+        ReadAnswer::Read(x) => search_steps(bytes, x),
     }
 }

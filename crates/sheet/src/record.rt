@@ -1,13 +1,13 @@
 // One record of the sheet: where it lies, the step that it holds, and the number of the record after it.
 use super::Sheet;
-use super::Step;
 use super::numbers::u16_at;
 use super::numbers::u32_at;
 use super::numbers::u64_at;
+use format::Step;
 ghost use mathlib.Core.Path.{_≡_};
 ghost use Prim.Native.Nat.{_+_, _≤_, _<_, _^_};
 ghost use lib.ListN.{length};
-ghost use Rattle.sheet.specs.Format.{recordOffset, stepOf, nextOf};
+ghost use Rattle.format.specs.Format.{recordOffset, stepOf, nextOf};
 
 // Where record j lies.
 pub fn record_offset(j: usize) -> usize
@@ -25,10 +25,10 @@ pub fn step_at(s: &[u8], j: usize) -> Step
     let at = record_offset(j);
     Step {
         lower: u64_at(s, at),
-        upper: u64_at(s, at + 8),
-        least: s[at + 16],
-        greatest: s[at + 17],
-        tag: u32_at(s, at + 20) as u32,
+        upper: u64_at(s, at + Sheet::UPPER_AT),
+        least: s[at + Sheet::LEAST_AT],
+        greatest: s[at + Sheet::GREATEST_AT],
+        tag: u32_at(s, at + Sheet::TAG_AT) as u32,
     }
 }
 
@@ -38,7 +38,7 @@ pub fn follow(s: &[u8], j: usize) -> usize
     ensures { λ r. ⌜ (r ≡ nextOf (now (s .entry)) j) × (r < 65536) ⌝ }
 {
     if j == 0 {
-        return u16_at(s, 8) as usize;
+        return u16_at(s, Sheet::FIRST_AT) as usize;
     }
-    u16_at(s, record_offset(j) + 18) as usize
+    u16_at(s, record_offset(j) + Sheet::NEXT_AT) as usize
 }

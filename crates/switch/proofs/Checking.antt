@@ -8,12 +8,13 @@ use native.Mathlib.Omega.{arith}
 use lib.ListN.{length, drop, getD, drop-of-length-le}
 use lib.Seq.{drop-cons}
 use Rattle.units.specs.Sets.{difference, size}
-use Rattle.switch.specs.Plans.{allows, isFeasible}
-use Rattle.switch.specs.Switch.{Limits, switches, total}
+use Rattle.plans.specs.Plans.{allows, isFeasible}
+use Rattle.plans.specs.declared.Limits.{Limits}
+use Rattle.plans.specs.Switch.{switches, total}
 
 -- after i sets, what was found with what is still to be found is all
 pub record Checking (ss : List Limits) (start : ℕ) (plan : List ℕ) (i before : ℕ) (feasible : Bool) (sum : ℕ) : Type 0 where
-  pub tested : (feasible && isFeasible (drop i ss) (drop i plan)) ≡ isFeasible ss plan
+  pub tested : (feasible && isFeasible allows (drop i ss) (drop i plan)) ≡ isFeasible allows ss plan
   pub counted : sum + total before (drop i plan) ≡ total start plan
   pub small : sum ≤ 64 * i
 
@@ -29,20 +30,20 @@ module _ {ss : List Limits} {start : ℕ} {plan : List ℕ} {i before : ℕ} {fe
       let rest : drop i plan ≡ x ∷ drop (i + 1) plan = drop-cons plan i 0 h ∙ ap (λ (k : ℕ). x ∷ drop k plan) (sym (add-one i)) in
       record {
         tested =
-            and-assoc feasible (allows s x) (isFeasible (drop (i + 1) ss) (drop (i + 1) plan))
-            ∙ ap (λ p. feasible && isFeasible (s ∷ drop (i + 1) ss) p) (sym rest)
-            ∙ ap (λ t. feasible && isFeasible t (drop i plan)) (sym e)
+            and-assoc feasible (allows s x) (isFeasible allows (drop (i + 1) ss) (drop (i + 1) plan))
+            ∙ ap (λ p. feasible && isFeasible allows (s ∷ drop (i + 1) ss) p) (sym rest)
+            ∙ ap (λ t. feasible && isFeasible allows t (drop i plan)) (sym e)
             ∙ g .tested;
         counted = omega (arith, ap (total before) rest, g .counted);
         small = omega (arith, g .small);
       }
 
-  pub check-done : i ≡ length plan → length ss ≡ length plan → (feasible ≡ isFeasible ss plan) × (sum ≡ total start plan)
+  pub check-done : i ≡ length plan → length ss ≡ length plan → (feasible ≡ isFeasible allows ss plan) × (sum ≡ total start plan)
   unfolding isFeasible total
   check-done e f =
       let none : length plan ≤ i = omega arith in
       let over : length ss ≤ i = omega arith in
       let plans = drop-of-length-le plan none in (
-        sym (and-true feasible) ∙ ap (λ p. feasible && isFeasible [] p) (sym plans) ∙ ap (λ t. feasible && isFeasible t (drop i plan)) (sym (drop-of-length-le ss over)) ∙ g .tested,
+        sym (and-true feasible) ∙ ap (λ p. feasible && isFeasible allows [] p) (sym plans) ∙ ap (λ t. feasible && isFeasible allows t (drop i plan)) (sym (drop-of-length-le ss over)) ∙ g .tested,
         omega (arith, ap (total before) plans, g .counted),
       )

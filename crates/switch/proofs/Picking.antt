@@ -15,13 +15,14 @@ use lib.Dec.{ltb}
 use lib.ListN.{length}
 use Rattle.units.specs.Sets.{bit, union, intersection, difference, Subset, insert, remove, size}
 use Rattle.units.proofs.Sets.{bit-le, bit-cases, bit-union, bit-intersection, bit-difference, set-ext, union-assoc, union-empty-left, union-empty-right, union-insert, size-mono, size-remove, size-difference, size-union}
-use Rattle.switch.specs.Columns.{toward, FirstByNumber, bare}
+use Rattle.switch.specs.Toward.{toward, FirstByNumber}
+use Rattle.plans.specs.Rows.{limits}
 use Rattle.switch.specs.Looked.{Looked}
-use Rattle.switch.specs.Support.{ranksBefore, taken, tieOrder}
-use Rattle.switch.specs.Switch.{Limits}
-use Rattle.switch.proofs.Chosen.{First, Chosen, one-more, taken-chosen, chosen-unique}
-use Rattle.switch.proofs.Orders.{Ordered, mirror-ordered, ltb-ordered}
-use Rattle.switch.proofs.Ranks.{required-better, allowed-better, required-tied, forbidden-tied, open-ranked, better-ranks, ranks-ordered}
+use Rattle.plans.specs.Support.{ranksBefore, taken, tieOrder}
+use Rattle.plans.specs.declared.Limits.{Limits}
+use Rattle.plans.proofs.Chosen.{Foremost, Chosen, one-more, taken-chosen, chosen-unique}
+use Rattle.plans.proofs.Orders.{Ordered, mirror-ordered, ltb-ordered}
+use Rattle.plans.proofs.Ranks.{required-better, allowed-better, required-tied, forbidden-tied, open-ranked, better-ranks, ranks-ordered}
 
 -- ---- a group of c that goes before the rest of it
 
@@ -242,7 +243,7 @@ module _ (n i : ℕ) (s : Limits) (ss : List Limits) (h : i + length (s ∷ ss) 
 -- ---- by number, one unit after the other
 
 -- the unit that goes first by number goes first in the order of the numbers, or in its mirror image
-first-by-number : (last : Bool) (c u : ℕ) → FirstByNumber last c u → First (toward last tieOrder) (λ x. bit c x ≡ 1) u
+first-by-number : (last : Bool) (c u : ℕ) → FirstByNumber last c u → Foremost (toward last tieOrder) (λ x. bit c x ≡ 1) u
 first-by-number false c u f = record { member = f .has; least = λ v b. go v b (decLt v u) }
   where
     go : (v : ℕ) → bit c v ≡ 1 → Dec (v < u) → ltb v u ≡ false
@@ -276,7 +277,7 @@ found-one last c k found rest left u pos f g =
     tied : Ordered (toward last tieOrder)
     tied = toward-ordered last ltb-ordered
 
-    goes : First (toward last tieOrder) (λ x. bit rest x ≡ 1) u
+    goes : Foremost (toward last tieOrder) (λ x. bit rest x ≡ 1) u
     goes = first-by-number last rest u f
 
     sum : suc (left - 1) ≡ left
@@ -307,27 +308,27 @@ module _ (last : Bool) (lower upper rest left : ℕ) (m : left ≤ size rest) wh
   looked-first l =
       record {
         enough = omega arith;
-        same = λ n i ss h. nothing-left (toward last (ranksBefore n (i + 1) ss)) _ ∙ sym (taken-first n i (bare lower upper) ss (omega arith) rest last left l);
+        same = λ k g n i ss h. nothing-left (toward last (ranksBefore n (i + 1) ss)) _ ∙ sym (taken-first n i (limits lower upper k g) ss (omega arith) rest last left l);
       }
 
   module _ (l : size (firstGroup last lower upper rest) ≤ left) where
     pub looked-far : left - size (firstGroup last lower upper rest) ≤ size (undecided lower upper rest)
         → Looked last lower upper rest left (record { found = firstGroup last lower upper rest; rest = undecided lower upper rest; left = left - size (firstGroup last lower upper rest) })
-    looked-far p = record { enough = p; same = λ n i ss h. sym (taken-far n i (bare lower upper) ss (omega arith) rest last left l m p) }
+    looked-far p = record { enough = p; same = λ k g n i ss h. sym (taken-far n i (limits lower upper k g) ss (omega arith) rest last left l m p) }
 
     pub looked-end : size (undecided lower upper rest) ≤ left - size (firstGroup last lower upper rest)
         → Looked last lower upper rest left (record { found = union (union (firstGroup last lower upper rest) (undecided lower upper rest)) (taken (toward last tieOrder) (left - size (firstGroup last lower upper rest) - size (undecided lower upper rest)) (endGroup last lower upper rest)); rest = 0; left = 0 })
     looked-end p =
         record {
           enough = omega arith;
-          same = λ n i ss h.
+          same = λ k g n i ss h.
               nothing-left (toward last (ranksBefore n (i + 1) ss)) _
               ∙ union-assoc (firstGroup last lower upper rest) (undecided lower upper rest) _
-              ∙ sym (taken-end n i (bare lower upper) ss (omega arith) rest last left l m p);
+              ∙ sym (taken-end n i (limits lower upper k g) ss (omega arith) rest last left l m p);
         }
 
     -- the last group has as many as are still wanted
     pub end-has : size (undecided lower upper rest) ≤ left - size (firstGroup last lower upper rest)
         → left - size (firstGroup last lower upper rest) - size (undecided lower upper rest) ≤ size (endGroup last lower upper rest)
     end-has p =
-        omega (arith, end-room 1 1 (bare lower upper) [] refl rest last left l m p)
+        omega (arith, end-room 1 1 (limits lower upper 0 0) [] refl rest last left l m p)

@@ -1,14 +1,15 @@
 // The check of a plan made elsewhere: whether each step's set is feasible, and how many switches it makes.
+use super::rows::step_at;
+use plans::Limits;
 use units::difference;
 use units::is_subset;
 use units::size;
 ghost use mathlib.Core.Path.{_≡_};
 ghost use mathlib.Core.Bool.{_&&_};
-ghost use Prim.Native.Nat.{_≤_};
 ghost use lib.ListN.{length};
-ghost use Rattle.switch.specs.Columns.{limits, columns};
-ghost use Rattle.switch.specs.Plans.{allows, isFeasible};
-ghost use Rattle.switch.specs.Switch.{total};
+ghost use Rattle.plans.specs.Rows.{stepsIn, Rows};
+ghost use Rattle.plans.specs.Plans.{allows, isFeasible};
+ghost use Rattle.plans.specs.Switch.{total};
 
 // What is known of a plan: whether it is feasible, and its total, feasible or not.
 pub struct Checked {
@@ -17,20 +18,20 @@ pub struct Checked {
 }
 
 // Whether a step allows the set x.
-pub fn allows(lower: u64, upper: u64, least: u8, greatest: u8, x: u64) -> bool
-    ensures { λ r. ⌜ r ≡ allows (limits lower upper least greatest) x ⌝ }
+pub fn allows(s: Limits, x: u64) -> bool
+    ensures { λ r. ⌜ r ≡ allows s x ⌝ }
 {
-    if !is_subset(lower, x) {
+    if !is_subset(s.lower, x) {
         return false;
     }
-    if !is_subset(x, upper) {
+    if !is_subset(x, s.upper) {
         return false;
     }
-    let many = size(x);
-    if many < least as u32 {
+    let many = size(x) as u64;
+    if many < s.least {
         return false;
     }
-    many <= greatest as u32
+    many <= s.greatest
 }
 
 // Whether both are so.
@@ -40,25 +41,12 @@ fn both(a: bool, b: bool) -> bool
     if a { b } else { false }
 }
 
-// The check of a plan that has a set for each step of four columns.
-pub fn check_plan(
-    lower: &[u64],
-    upper: &[u64],
-    least: &[u8],
-    greatest: &[u8],
-    start: u64,
-    plan: &[u64],
-) -> Checked
-    requires { ⌜
-        (length (now lower) ≡ length (now plan))
-        × ((length (now upper) ≡ length (now plan))
-        × ((length (now least) ≡ length (now plan)) × ((length (now greatest) ≡ length (now plan)) × (length (now plan) ≤ 256))))
-        ⌝ }
-    ensures { λ r.
-        ⌜
-        (r .feasible ≡ isFeasible (columns (now (lower .entry)) (now (upper .entry)) (now (least .entry)) (now (greatest .entry))) (now (plan .entry)))
-        × (r .total ≡ total start (now (plan .entry)))
-        ⌝ }
+// The check of a plan that has a set for each step.
+pub fn check_plan(rows: &[u64], start: u64, plan: &[u64]) -> Checked
+    requires { ⌜ Rows (now rows) ⌝ }
+    requires { ⌜ length (now plan) ≡ length (stepsIn (now rows)) ⌝ }
+    ensures { λ r. ⌜ r .feasible ≡ isFeasible allows (stepsIn (now (rows .entry))) (now (plan .entry)) ⌝ }
+    ensures { λ r. ⌜ r .total ≡ total start (now (plan .entry)) ⌝ }
 {
     let mut before = start;
     let mut feasible = true;
@@ -66,10 +54,7 @@ pub fn check_plan(
     let mut i = 0;
     while i < plan.len() {
         let set = plan[i];
-        feasible = both(
-            feasible,
-            allows(lower[i], upper[i], least[i], greatest[i], set),
-        );
+        feasible = both(feasible, allows(step_at(rows, i), set));
         total += size(difference(set, before));
         before = set;
         i += 1;

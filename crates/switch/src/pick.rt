@@ -1,4 +1,7 @@
 // The first units of a set, by number or by rank.
+use super::rows::step_at;
+use plans::Limits;
+use units::choose;
 use units::difference;
 use units::highest;
 use units::insert;
@@ -8,13 +11,13 @@ use units::remove;
 use units::size;
 use units::union;
 ghost use mathlib.Core.Path.{_≡_};
-ghost use mathlib.Core.Bool.{cond};
 ghost use Prim.Native.Nat.{_≤_, _<_};
 ghost use lib.ListN.{length};
 ghost use Rattle.units.specs.Sets.{size};
 ghost use Rattle.switch.specs.Looked.{Looked};
-ghost use Rattle.switch.specs.Support.{taken, tieOrder};
-ghost use Rattle.switch.specs.Columns.{toward, FirstByNumber, rankingAt};
+ghost use Rattle.plans.specs.Support.{taken, tieOrder};
+ghost use Rattle.switch.specs.Toward.{toward, FirstByNumber};
+ghost use Rattle.plans.specs.Rows.{rankingAt, stepsIn, Rows};
 
 // The unit of s, which has one, that goes first by number: the lowest, or the highest where last is true.
 fn first_by_number(s: u64, last: bool) -> u32
@@ -24,15 +27,8 @@ fn first_by_number(s: u64, last: bool) -> u32
     if last { highest(s) } else { lowest(s) }
 }
 
-// One of two sets.
-pub fn choose(first: bool, a: u64, b: u64) -> u64
-    ensures { λ r. ⌜ r ≡ cond first a b ⌝ }
-{
-    if first { a } else { b }
-}
-
 // The k units of s that go first by number, or last.
-pub fn by_number(s: u64, k: u32, last: bool) -> u64
+pub fn by_number(s: u64, k: u64, last: bool) -> u64
     requires { ⌜ k ≤ size s ⌝ }
     ensures { λ r. ⌜ r ≡ taken (toward last tieOrder) k s ⌝ }
 {
@@ -52,21 +48,21 @@ pub fn by_number(s: u64, k: u32, last: bool) -> u64
 pub struct Pick {
     pub found: u64,
     pub rest: u64,
-    pub left: u32,
+    pub left: u64,
 }
 
 // Of `left` units of `rest` that go first in the ranking from a step on, or last: those that the sets of that step decide. The others go first in
 // the ranking from the next step on.
-fn look(lower: u64, upper: u64, rest: u64, left: u32, last: bool) -> Pick
+fn look(lower: u64, upper: u64, rest: u64, left: u64, last: bool) -> Pick
     requires { ⌜ left ≤ size rest ⌝ }
     ensures { λ r. ⌜ Looked last lower upper rest left r ⌝ }
 {
     let allowed = intersection(rest, upper);
-    let far = difference(allowed, lower);
+    let undecided = difference(allowed, lower);
     let required = intersection(allowed, lower);
     let forbidden = difference(rest, upper);
     let first = choose(last, forbidden, required);
-    let many = size(first);
+    let many = size(first) as u64;
     if left <= many {
         return Pick {
             found: by_number(first, left, last),
@@ -75,36 +71,43 @@ fn look(lower: u64, upper: u64, rest: u64, left: u32, last: bool) -> Pick
         };
     }
     let after = left - many;
-    let others = size(far);
+    let others = size(undecided) as u64;
     if others < after {
         let end = choose(last, required, forbidden);
         return Pick {
-            found: union(union(first, far), by_number(end, after - others, last)),
+            found: union(
+                union(first, undecided),
+                by_number(end, after - others, last),
+            ),
             rest: 0,
             left: 0,
         };
     }
     Pick {
         found: first,
-        rest: far,
+        rest: undecided,
         left: after,
     }
 }
 
 // The k units of c that go first in the ranking of the steps from the one at `from` on, or last.
-pub fn by_rank(lower: &[u64], upper: &[u64], from: usize, c: u64, k: u32, last: bool) -> u64
-    requires { ⌜ (length (now lower) ≡ length (now upper)) × ((from ≤ length (now lower)) × (k ≤ size c)) ⌝ }
-    ensures { λ r. ⌜ r ≡ taken (toward last (rankingAt (now (lower .entry)) (now (upper .entry)) from)) k c ⌝ }
+pub fn by_rank(rows: &[u64], from: usize, c: u64, k: u64, last: bool) -> u64
+    requires { ⌜ Rows (now rows) ⌝ }
+    requires { ⌜ from ≤ length (stepsIn (now rows)) ⌝ }
+    requires { ⌜ k ≤ size c ⌝ }
+    ensures { λ r. ⌜ r ≡ taken (toward last (rankingAt (stepsIn (now (rows .entry))) from)) k c ⌝ }
 {
+    let n = rows.len() / Limits::WORDS;
     let mut found = 0;
     let mut rest = c;
     let mut left = k;
     let mut j = from;
     while 0 < left {
-        if j == lower.len() {
+        if j == n {
             return union(found, by_number(rest, left, last));
         }
-        let p = look(lower[j], upper[j], rest, left, last);
+        let s = step_at(rows, j);
+        let p = look(s.lower, s.upper, rest, left, last);
         found = union(found, p.found);
         rest = p.rest;
         left = p.left;

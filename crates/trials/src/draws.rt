@@ -28,8 +28,10 @@ pub fn below(limit: usize, case: usize, step: usize, purpose: usize) -> usize
 
 // A number from low to high, and about every second time low itself.
 pub fn between(low: usize, high: usize, case: usize, step: usize, purpose: usize) -> usize
-    requires { ⌜ (low ≤ high) × (high < 65536) ⌝ }
-    ensures { λ r. ⌜ (low ≤ r) × (r ≤ high) ⌝ }
+    requires { ⌜ low ≤ high ⌝ }
+    requires { ⌜ high < 65536 ⌝ }
+    ensures { λ r. ⌜ low ≤ r ⌝ }
+    ensures { λ r. ⌜ r ≤ high ⌝ }
 {
     if drawn(case, step, purpose) % 2 == 0 {
         return low;

@@ -29,7 +29,8 @@ pub struct Limits {
 // The length of a sheet of that many records.
 pub fn length_of(records: usize) -> usize
     requires { ⌜ records ≤ 256 ⌝ }
-    ensures { λ r. ⌜ (r ≡ 24 * (records + 1)) × (r ≤ 6168) ⌝ }
+    ensures { λ r. ⌜ r ≡ 24 * (records + 1) ⌝ }
+    ensures { λ r. ⌜ r ≤ 6168 ⌝ }
 {
     24 * (records + 1)
 }
@@ -43,7 +44,8 @@ fn put_byte(bytes: &mut Space, at: usize, value: u8)
 
 // Puts a number of two bytes, the lower first.
 fn put_u16(bytes: &mut Space, at: usize, value: usize)
-    requires { ⌜ (at + 2 ≤ 6192) × (value < 65536) ⌝ }
+    requires { ⌜ at + 2 ≤ 6192 ⌝ }
+    requires { ⌜ value < 65536 ⌝ }
 {
     put_byte(bytes, at, (value % 256) as u8);
     put_byte(bytes, at + 1, (value / 256) as u8);
@@ -51,7 +53,8 @@ fn put_u16(bytes: &mut Space, at: usize, value: usize)
 
 // Puts a number of four bytes, the lower first.
 fn put_u32(bytes: &mut Space, at: usize, value: usize)
-    requires { ⌜ (at + 4 ≤ 6192) × (value < 2 ^ 32) ⌝ }
+    requires { ⌜ at + 4 ≤ 6192 ⌝ }
+    requires { ⌜ value < 2 ^ 32 ⌝ }
 {
     put_u16(bytes, at, value % 65536);
     put_u16(bytes, at + 2, value / 65536);
@@ -67,7 +70,9 @@ fn put_set(bytes: &mut Space, at: usize, units: u64)
 
 // Puts the header of a sheet with no step.
 pub fn put_head(bytes: &mut Space, head: Head)
-    requires { ⌜ (head .units < 256) × (head .records < 65536) × (head .bound < 65536) ⌝ }
+    requires { ⌜ head .units < 256 ⌝ }
+    requires { ⌜ head .records < 65536 ⌝ }
+    requires { ⌜ head .bound < 65536 ⌝ }
 {
     put_byte(bytes, 0, b'W');
     put_byte(bytes, 1, b'A');
@@ -94,7 +99,8 @@ pub fn put_limits(bytes: &mut Space, j: usize, limits: Limits)
 
 // Puts the number of the record after a record, or of the first record where the holder is 0, for the header.
 pub fn put_link(bytes: &mut Space, holder: usize, next: usize)
-    requires { ⌜ (holder ≤ 256) × (next < 65536) ⌝ }
+    requires { ⌜ holder ≤ 256 ⌝ }
+    requires { ⌜ next < 65536 ⌝ }
 {
     if holder == 0 {
         put_u16(bytes, 8, next);

@@ -3,7 +3,7 @@
 use mathlib.Core.Path.{_≡_}
 use Prim.Native.Nat.{ℕ, zero, suc, _+_, _-_, _/_, _%_, _^_, _≤_, _<_}
 use mathlib.Core.List.{List, [], _∷_, _++_}
-use mathlib.Core.Bool.{Bool, cond}
+use mathlib.Core.Bool.{Bool, not, cond}
 use lib.Bits.{bitAnd, bitOr}
 use lib.Count.{ones}
 use lib.Dec.{eqb, leb}
@@ -31,6 +31,14 @@ Subset a b = (u : ℕ) → bit a u ≤ bit b u
 -- the test of `Subset`
 unfoldable pub isSubset : ℕ → ℕ → Bool
 isSubset a b = eqb (intersection a b) a
+
+-- the test that two sets have a common unit
+unfoldable pub meets : ℕ → ℕ → Bool
+meets a b = not (eqb (intersection a b) 0)
+
+-- all units that a word has
+abbrev pub all : ℕ
+all = 2 ^ 64 - 1
 
 -- the test that unit u is in s
 unfoldable pub contains : ℕ → ℕ → Bool

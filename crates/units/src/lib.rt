@@ -3,9 +3,13 @@
 // Each function is one or two machine operations and ensures that its result is the set, size or test that specs/Sets.antt defines.
 // Those that take a unit require that it is below 64. They serve the crates above; none is an open entry of the library.
 ghost use mathlib.Core.Path.{_≡_};
-ghost use Prim.Native.Nat.{ℕ, _<_, _≤_};
-ghost use Rattle.units.specs.Sets.{union, intersection, difference, isSubset, contains, insert, remove, size, hasUnitFrom, Lowest, Highest};
+ghost use mathlib.Core.Bool.{cond};
+ghost use Prim.Native.Nat.{ℕ, _-_, _^_, _<_, _≤_};
+ghost use Rattle.units.specs.Sets.{union, intersection, difference, isSubset, meets, contains, insert, remove, size, hasUnitFrom, Lowest, Highest};
 ghost use Rattle.units.specs.Limits.{hasFeasible};
+
+// All units that a set can have.
+pub const ALL: u64 = u64::MAX;
 
 // The units of either set.
 pub fn union(a: u64, b: u64) -> u64
@@ -33,6 +37,20 @@ pub fn is_subset(a: u64, b: u64) -> bool
     ensures { λ r. ⌜ r ≡ isSubset a b ⌝ }
 {
     a & b == a
+}
+
+// Whether two sets have a common unit.
+pub fn meets(a: u64, b: u64) -> bool
+    ensures { λ r. ⌜ r ≡ meets a b ⌝ }
+{
+    a & b != 0
+}
+
+// One of two sets.
+pub fn choose(first: bool, a: u64, b: u64) -> u64
+    ensures { λ r. ⌜ r ≡ cond first a b ⌝ }
+{
+    if first { a } else { b }
 }
 
 // Whether unit u is in s.
@@ -75,6 +93,17 @@ pub fn has_unit_from(s: u64, d: u32) -> bool
         return false;
     }
     s >> d != 0
+}
+
+// All units below d.
+pub fn units_below(d: u32) -> u64
+    requires { ⌜ d ≤ 64 ⌝ }
+    ensures { λ r. ⌜ r ≡ 2 ^ d - 1 ⌝ }
+{
+    if d < 64 {
+        return insert(0, d) - 1;
+    }
+    ALL
 }
 
 // Whether some set includes lower, lies within upper and has a size from least to greatest.

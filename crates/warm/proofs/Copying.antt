@@ -1,20 +1,36 @@
--- Laws on copying the first words of a list into another.
-use mathlib.Core.Path.{_≡_, sym, ap, _∙_}
-use mathlib.Core.List.{List, [], _∷_, _++_, append-assoc}
+-- The loop that copies words: what the turns to come make of the output is what all make of it as it was.
+use mathlib.Core.Path.{_≡_, refl, sym, ap, ap₂, _∙_}
+use mathlib.Core.List.{List, _∷_}
 use Prim.Native.Nat.{ℕ, suc, _+_, _≤_, _<_}
 use native.Mathlib.Numerals.{add-one}
 use native.Mathlib.Omega.{arith}
-use lib.ListN.{length, length-append, length-drop, take, drop, set, getD}
-use lib.Seq.{length-take-le, take-suc, drop-cons, set-at}
+use lib.ListN.{length, length-set, take, drop, set, getD, drop-of-length-le}
+use lib.Seq.{sets, length-take-le, getD-take, drop-cons}
 
-pub copied-length : (from to : List ℕ) (i : ℕ) → i ≤ length from → i ≤ length to → length (take i from ++ drop i to) ≡ length to
-copied-length from to i p q = omega (arith, length-append (take i from) (drop i to), length-take-le i from p, length-drop i to)
+pub record Copying (from before : List ℕ) (n : ℕ) (now : List ℕ) (i : ℕ) : Type 0 where
+  pub within : i ≤ n
+  pub same-long : length now ≡ length before
+  pub ends : sets now i (drop i (take n from)) ≡ sets before 0 (take n from)
 
-pub copied-more : (from to : List ℕ) (i : ℕ) → i < length from → i < length to
-    → set (take i from ++ drop i to) i (getD from i 0) ≡ take (i + 1) from ++ drop (i + 1) to
-copied-more from to i p q =
-    ap (λ t. set (take i from ++ t) i (getD from i 0)) (drop-cons to i 0 q)
-    ∙ set-at (take i from) (getD to i 0) (drop (suc i) to) (getD from i 0) i (length-take-le i from (omega arith))
-    ∙ sym (append-assoc (take i from) (getD from i 0 ∷ []) (drop (suc i) to))
-    ∙ ap (λ t. t ++ drop (suc i) to) (sym (take-suc from i 0 p))
-    ∙ ap (λ (k : ℕ). take k from ++ drop k to) (sym (add-one i))
+pub copy-begun : (from before : List ℕ) (n : ℕ) → Copying from before n before 0
+copy-begun from before n = record { within = omega arith; same-long = refl; ends = refl }
+
+module _ {from before : List ℕ} {n : ℕ} {now : List ℕ} {i : ℕ} (g : Copying from before n now i) (room : n ≤ length from) where
+  pub copy-on : i < n → Copying from before n (set now i (getD from i 0)) (i + 1)
+  copy-on h =
+      let word = getD from i 0 in
+      let rest : drop i (take n from) ≡ word ∷ drop (suc i) (take n from) =
+      drop-cons (take n from) i 0 (omega (arith, length-take-le n from room)) ∙ ap (λ (x : ℕ). x ∷ drop (suc i) (take n from)) (getD-take n from i 0 h) in
+      record {
+        within = omega arith;
+        same-long = length-set now i word ∙ g .same-long;
+        ends =
+            ap₂ (λ (k m : ℕ). sets (set now i word) k (drop m (take n from))) (add-one i) (add-one i)
+            ∙ ap (sets now i) (sym rest)
+            ∙ g .ends;
+      }
+
+  pub copy-done : i ≡ n → now ≡ sets before 0 (take n from)
+  copy-done e =
+      let none : length (take n from) ≤ i = omega (arith, length-take-le n from room) in
+      sym (ap (sets now i) (drop-of-length-le (take n from) none)) ∙ g .ends

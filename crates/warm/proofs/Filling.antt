@@ -6,9 +6,9 @@ use native.Mathlib.Omega.{arith}
 use mathlib.Core.List.{List, [], _∷_, _++_}
 use lib.ListN.{length, set, drop, length-set, length-append}
 use lib.Seq.{set-at, append-snoc}
-use Rattle.sheet.specs.declared.Step.{Step}
-use Rattle.sheet.specs.Chain.{Inside, stepsFrom}
-use Rattle.sheet.specs.Format.{nextOf, stepOf, recordOffset}
+use Rattle.format.specs.declared.Step.{Step}
+use Rattle.format.specs.Chain.{Inside, stepsFrom}
+use Rattle.format.specs.Format.{nextOf, stepOf, recordOffset}
 
 module _ (s : List ℕ) where
   -- what t turns make of the list, where the first of them reads the record after record j and writes its step at place i

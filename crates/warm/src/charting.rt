@@ -1,57 +1,37 @@
 // The chart: refusals 1 to 9, or the units that can be on and those that can be off in each step, over all plans that meet the sheet.
-use super::Reply;
-use super::planning::make_plan;
+use super::WORDS;
 use super::refused;
-use chart::draw_chart;
+use campaign::plan_read;
+use chart::whole::draw_whole;
+use format::Summary;
+use plans::Limits;
+use promises::Reply;
 use sheet::ReadAnswer;
-use sheet::Summary;
-use sheet::columns::fill_columns;
+use sheet::Sheet;
 ghost use mathlib.Core.Path.{_≡_};
-ghost use Prim.Native.Nat.{_≤_};
-ghost use lib.ListN.{length, take};
-ghost use Rattle.sheet.specs.Answer.{Given, unless};
-ghost use Rattle.sheet.specs.Format.{startOf};
-ghost use Rattle.sheet.specs.Told.{summaryRead};
-ghost use Rattle.switch.specs.Switch.{total};
-ghost use Rattle.warm.specs.Entries.{supportOn, onWords, offWords, written, boundCauses, charted, warmChart};
+ghost use Prim.Native.Nat.{_*_, _≤_};
+ghost use lib.ListN.{length};
+ghost use Rattle.plans.specs.Rows.{rowSize};
+ghost use Rattle.format.specs.Answer.{Given, unless};
+ghost use Rattle.format.specs.Format.{startOf};
+ghost use Rattle.format.specs.Stages.{summaryRead};
+ghost use Rattle.promises.specs.Chart.{onWords, offWords, charted, warmChart};
+ghost use Rattle.promises.specs.Plan.{supportOn, boundCauses};
 
-// The chart of a sheet that was read, into the first places of the outputs, from its plan, which is within the bound.
-fn draw(sheet: &[u8], x: Summary, sets: &[u64], many: u32, on: &mut [u64], off: &mut [u64])
-    requires { ⌜
-        (summaryRead (now sheet) ≡ Given x)
-        × (((take (x .steps) (now sets) ≡ supportOn (now sheet)) × (many ≡ total (startOf (now sheet)) (supportOn (now sheet))))
-        × ((many ≤ x .bound) × ((x .steps ≤ length (now on)) × (x .steps ≤ length (now off)))))
-        ⌝ }
-    ensures { λ _.
-        ⌜
-        (now (on .exit) ≡ written (onWords (now (sheet .entry))) (now (on .entry)))
-        × (now (off .exit) ≡ written (offWords (now (sheet .entry))) (now (off .entry)))
-        ⌝ }
-{
-    let mut lower = [0u64; 256];
-    let mut upper = [0u64; 256];
-    let mut least = [0u8; 256];
-    let mut greatest = [0u8; 256];
-    let n = x.steps as usize;
-    fill_columns(sheet, n, &mut lower, &mut upper, &mut least, &mut greatest);
-    draw_chart(
-        &lower[0..n],
-        &upper[0..n],
-        &least[0..n],
-        &greatest[0..n],
-        x.start,
-        x.units,
-        x.bound,
-        many,
-        &sets[0..n],
-        on,
-        off,
-    )
-}
-
-// Hands out the chart of a sheet that was read, where the outputs have a place for each step: refusal 9, or the chart.
-fn hand_out_chart(sheet: &[u8], x: Summary, on: &mut [u64], off: &mut [u64]) -> Reply
-    requires { ⌜ (summaryRead (now sheet) ≡ Given x) × ((x .steps ≤ length (now on)) × (x .steps ≤ length (now off))) ⌝ }
+// Hands out the chart of a sheet that was read, where the outputs have a place for each step: refusal 9, or the chart. It works in `rows` and `sets`.
+fn hand_out_chart(
+    sheet: &[u8],
+    x: Summary,
+    rows: &mut [u64],
+    sets: &mut [u64],
+    on: &mut [u64],
+    off: &mut [u64],
+) -> Reply
+    requires { ⌜ summaryRead (now sheet) ≡ Given x ⌝ }
+    requires { ⌜ rowSize * x .steps ≤ length (now rows) ⌝ }
+    requires { ⌜ x .steps ≤ length (now sets) ⌝ }
+    requires { ⌜ x .steps ≤ length (now on) ⌝ }
+    requires { ⌜ x .steps ≤ length (now off) ⌝ }
     ensures { λ r.
         ⌜
         (r, (now (on .exit), now (off .exit))) ≡
@@ -59,12 +39,22 @@ fn hand_out_chart(sheet: &[u8], x: Summary, on: &mut [u64], off: &mut [u64]) -> 
         (unless (boundCauses (now (sheet .entry))) (Given (supportOn (now (sheet .entry)))))
         ⌝ }
 {
-    let mut sets = [0u64; 256];
-    let total = make_plan(sheet, x, &mut sets);
-    if x.bound < total {
+    let header = x.header;
+    let total = plan_read(sheet, x, rows, sets);
+    if header.bound < total {
         return refused(9, total);
     }
-    draw(sheet, x, &sets, total, on, off);
+    let n = x.steps as usize;
+    let end = Limits::WORDS * n;
+    draw_whole(
+        &rows[0..end],
+        header.start,
+        header.units,
+        header.bound - total,
+        &sets[0..n],
+        on,
+        off,
+    );
     Reply {
         refusal: 0,
         place: 0,
@@ -88,7 +78,9 @@ pub extern "C" fn warm_chart(sheet: &[u8], on: &mut [u64], off: &mut [u64]) -> R
             if off.len() < x.steps as usize {
                 return refused(8, x.steps);
             }
-            hand_out_chart(sheet, x, on, off)
+            let mut rows = [0u64; WORDS];
+            let mut sets = [0u64; Sheet::RECORD_LIMIT];
+            hand_out_chart(sheet, x, &mut rows, &mut sets, on, off)
         }
     }
 }

@@ -1,19 +1,22 @@
 // The verdict on a plan made elsewhere: refusals 1 to 7 and 10, or yes or no and the plan's total.
-use super::Reply;
+use super::WORDS;
 use super::refused;
+use campaign::check_read;
+use format::Summary;
+use promises::Reply;
 use sheet::ReadAnswer;
-use sheet::Summary;
-use sheet::columns::fill_columns;
-use switch::check::check_plan;
 ghost use mathlib.Core.Path.{_≡_};
 ghost use mathlib.Core.Bool.{cond, _&&_};
 ghost use lib.Dec.{leb};
+ghost use Prim.Native.Nat.{_*_, _≤_};
 ghost use lib.ListN.{length};
-ghost use Rattle.sheet.specs.Answer.{Given};
-ghost use Rattle.sheet.specs.Format.{startOf};
-ghost use Rattle.sheet.specs.Told.{summaryRead};
-ghost use Rattle.switch.specs.Switch.{total};
-ghost use Rattle.warm.specs.Entries.{fullReply, accepts, warmVerdict};
+ghost use Rattle.plans.specs.Rows.{rowSize};
+ghost use Rattle.format.specs.Answer.{Given};
+ghost use Rattle.format.specs.Format.{startOf};
+ghost use Rattle.format.specs.Stages.{summaryRead};
+ghost use Rattle.plans.specs.Switch.{total};
+ghost use Rattle.promises.specs.Common.{fullReply};
+ghost use Rattle.promises.specs.Verdict.{accepts, warmVerdict};
 
 // 1 for a feasible plan within the bound, else 0.
 fn yes_or_no(feasible: bool, total: u32, bound: u32) -> u32
@@ -28,31 +31,21 @@ fn yes_or_no(feasible: bool, total: u32, bound: u32) -> u32
     1
 }
 
-// The verdict on a plan that has a word for each step of a sheet that was read.
-fn judge(sheet: &[u8], x: Summary, plan: &[u64]) -> Reply
-    requires { ⌜ (summaryRead (now sheet) ≡ Given x) × (length (now plan) ≡ x .steps) ⌝ }
+// The verdict on a plan that has a word for each step of a sheet that was read. It works in `rows`.
+fn judge(sheet: &[u8], x: Summary, rows: &mut [u64], plan: &[u64]) -> Reply
+    requires { ⌜ summaryRead (now sheet) ≡ Given x ⌝ }
+    requires { ⌜ rowSize * x .steps ≤ length (now rows) ⌝ }
+    requires { ⌜ length (now plan) ≡ x .steps ⌝ }
     ensures { λ r.
         ⌜ r ≡ fullReply (total (startOf (now (sheet .entry))) (now (plan .entry))) (accepts (now (sheet .entry)) (now (plan .entry))) ⌝ }
 {
-    let mut lower = [0u64; 256];
-    let mut upper = [0u64; 256];
-    let mut least = [0u8; 256];
-    let mut greatest = [0u8; 256];
-    let n = x.steps as usize;
-    fill_columns(sheet, n, &mut lower, &mut upper, &mut least, &mut greatest);
-    let found = check_plan(
-        &lower[0..n],
-        &upper[0..n],
-        &least[0..n],
-        &greatest[0..n],
-        x.start,
-        plan,
-    );
+    let header = x.header;
+    let found = check_read(sheet, x, rows, plan);
     Reply {
         refusal: 0,
         place: 0,
         total: found.total,
-        accepted: yes_or_no(found.feasible, found.total, x.bound),
+        accepted: yes_or_no(found.feasible, found.total, header.bound),
     }
 }
 
@@ -67,7 +60,8 @@ pub extern "C" fn warm_verdict(sheet: &[u8], plan: &[u64]) -> Reply
             if plan.len() != x.steps as usize {
                 return refused(10, x.steps);
             }
-            judge(sheet, x, plan)
+            let mut rows = [0u64; WORDS];
+            judge(sheet, x, &mut rows, plan)
         }
     }
 }

@@ -1,39 +1,26 @@
 // The entries that buyers call, over lent bytes and lent buffers. Each has no `requires`, and one `ensures` that equates its reply and
-// all lent memory with a definition of specs/Entries.antt, for any input. docs/FORMAT.md has the sheet and the refusal table.
+// all lent memory with a definition of `promises`, for any input. docs/FORMAT.md has the sheet and the refusal table.
 pub mod charting;
 pub mod judging;
 pub mod planning;
 
+use format::Step;
+use plans::Limits;
+use promises::Reply;
+use promises::StepsReply;
 use sheet::ReadAnswer;
-use sheet::Step;
+use sheet::Sheet;
 ghost use mathlib.Core.Path.{_≡_};
 ghost use mathlib.Core.List.{_++_};
 ghost use Prim.Native.Nat.{_≤_};
 ghost use lib.ListN.{length, drop};
-ghost use Rattle.sheet.specs.Answer.{Refused};
-ghost use Rattle.sheet.specs.Chain.{Inside, stepsFrom};
-ghost use Rattle.warm.specs.Entries.{stepsAnswer, stepsReply, warmSteps, refusedReply};
+ghost use Rattle.format.specs.Answer.{Refused};
+ghost use Rattle.format.specs.Chain.{Inside, stepsFrom};
+ghost use Rattle.promises.specs.Steps.{stepsAnswer, stepsReply, warmSteps};
+ghost use Rattle.promises.specs.Common.{refusedReply};
 
-// What `warm_steps` replies. Where refusal is not 0, it is a refusal with its place, and the other numbers are 0.
-#[repr(C)]
-pub struct StepsReply {
-    pub refusal: u32,
-    pub place: u32,
-    pub units: u32,
-    pub steps: u32,
-    pub bound: u32,
-    pub reserved: u32,
-    pub start: u64,
-}
-
-// What the other entries reply. Where refusal is not 0, it is a refusal with its place, and the other numbers are 0.
-#[repr(C)]
-pub struct Reply {
-    pub refusal: u32,
-    pub place: u32,
-    pub total: u32,
-    pub accepted: u32,
-}
+// The words of the steps of the longest sheet.
+pub(crate) const WORDS: usize = Limits::WORDS * Sheet::RECORD_LIMIT;
 
 // A refusal.
 pub(crate) fn refused(number: u32, place: u32) -> Reply
@@ -72,14 +59,15 @@ fn steps_reply(sheet: &[u8], places: usize) -> StepsReply
             if places < x.steps as usize {
                 return steps_refused(8, x.steps);
             }
+            let h = x.header;
             StepsReply {
                 refusal: 0,
                 place: 0,
-                units: x.units,
+                units: h.units,
                 steps: x.steps,
-                bound: x.bound,
+                bound: h.bound,
                 reserved: 0,
-                start: x.start,
+                start: h.start,
             }
         }
     }

@@ -1,23 +1,26 @@
 // The plan: refusals 1 to 9, or FindSupport's plan and its total.
-use super::Reply;
+use super::WORDS;
 use super::refused;
+use campaign::plan_read;
+use format::Summary;
+use promises::Reply;
 use sheet::ReadAnswer;
-use sheet::Summary;
-use sheet::columns::fill_columns;
+use sheet::Sheet;
 ghost use mathlib.Core.Path.{_≡_};
-ghost use mathlib.Core.List.{_++_};
-ghost use Prim.Native.Nat.{_≤_};
-ghost use lib.ListN.{length, take, drop};
-ghost use Rattle.sheet.specs.Answer.{Given, unless};
-ghost use Rattle.sheet.specs.Format.{startOf};
-ghost use Rattle.sheet.specs.Told.{summaryRead};
-ghost use Rattle.switch.specs.Support.{Handed};
-ghost use Rattle.warm.specs.Entries.{limitsOn, supportOn, boundCauses, planned, warmPlan};
+ghost use Prim.Native.Nat.{_*_, _≤_};
+ghost use lib.ListN.{length, take};
+ghost use lib.Seq.{sets};
+ghost use Rattle.plans.specs.Rows.{rowSize};
+ghost use Rattle.format.specs.Answer.{Given, unless};
+ghost use Rattle.format.specs.Format.{startOf};
+ghost use Rattle.format.specs.Stages.{summaryRead};
+ghost use Rattle.promises.specs.Plan.{supportOn, boundCauses, planned, warmPlan};
 
 // Copies the first n words.
 fn copy_words(from: &[u64], to: &mut [u64], n: usize)
-    requires { ⌜ (n ≤ length (now from)) × (n ≤ length (now to)) ⌝ }
-    ensures { λ _. ⌜ now (to .exit) ≡ take n (now (from .entry)) ++ drop n (now (to .entry)) ⌝ }
+    requires { ⌜ n ≤ length (now from) ⌝ }
+    requires { ⌜ n ≤ length (now to) ⌝ }
+    ensures { λ _. ⌜ now (to .exit) ≡ sets (now (to .entry)) 0 (take n (now (from .entry))) ⌝ }
 {
     let mut i = 0;
     while i < n {
@@ -26,42 +29,24 @@ fn copy_words(from: &[u64], to: &mut [u64], n: usize)
     }
 }
 
-// The plan of a sheet that was read, into the first places of `sets`, and its total.
-pub(crate) fn make_plan(sheet: &[u8], x: Summary, sets: &mut [u64]) -> u32
-    requires { ⌜ (summaryRead (now sheet) ≡ Given x) × (x .steps ≤ length (now sets)) ⌝ }
-    ensures { λ r. ⌜ Handed (limitsOn (now (sheet .entry))) (startOf (now (sheet .entry))) (now (sets .entry)) (now (sets .exit)) r ⌝ }
-{
-    let mut lower = [0u64; 256];
-    let mut upper = [0u64; 256];
-    let mut least = [0u8; 256];
-    let mut greatest = [0u8; 256];
-    let n = x.steps as usize;
-    fill_columns(sheet, n, &mut lower, &mut upper, &mut least, &mut greatest);
-    switch::plan::plan(
-        &lower[0..n],
-        &upper[0..n],
-        &least[0..n],
-        &greatest[0..n],
-        x.start,
-        sets,
-    )
-}
-
-// Hands out the plan of a sheet that was read, where the output has a place for each step: refusal 9, or the plan.
-fn hand_out(sheet: &[u8], x: Summary, plan: &mut [u64]) -> Reply
-    requires { ⌜ (summaryRead (now sheet) ≡ Given x) × (x .steps ≤ length (now plan)) ⌝ }
+// Hands out the plan of a sheet that was read, where the output has a place for each step: refusal 9, or the plan. It works in `rows` and `sets`.
+fn hand_out(sheet: &[u8], x: Summary, rows: &mut [u64], sets: &mut [u64], plan: &mut [u64]) -> Reply
+    requires { ⌜ summaryRead (now sheet) ≡ Given x ⌝ }
+    requires { ⌜ rowSize * x .steps ≤ length (now rows) ⌝ }
+    requires { ⌜ x .steps ≤ length (now sets) ⌝ }
+    requires { ⌜ x .steps ≤ length (now plan) ⌝ }
     ensures { λ r.
         ⌜
         (r, now (plan .exit)) ≡
         planned (startOf (now (sheet .entry))) (now (plan .entry)) (unless (boundCauses (now (sheet .entry))) (Given (supportOn (now (sheet .entry)))))
         ⌝ }
 {
-    let mut sets = [0u64; 256];
-    let total = make_plan(sheet, x, &mut sets);
-    if x.bound < total {
+    let header = x.header;
+    let total = plan_read(sheet, x, rows, sets);
+    if header.bound < total {
         return refused(9, total);
     }
-    copy_words(&sets, plan, x.steps as usize);
+    copy_words(sets, plan, x.steps as usize);
     Reply {
         refusal: 0,
         place: 0,
@@ -81,7 +66,9 @@ pub extern "C" fn warm_plan(sheet: &[u8], plan: &mut [u64]) -> Reply
             if plan.len() < x.steps as usize {
                 return refused(8, x.steps);
             }
-            hand_out(sheet, x, plan)
+            let mut rows = [0u64; WORDS];
+            let mut sets = [0u64; Sheet::RECORD_LIMIT];
+            hand_out(sheet, x, &mut rows, &mut sets, plan)
         }
     }
 }

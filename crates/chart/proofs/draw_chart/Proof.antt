@@ -1,19 +1,50 @@
--- `chart::draw_chart` meets its contract: each way fills the lists with the words of the chart.
-use mathlib.Core.Bool.{true, false}
-use Prim.Native.Nat.{_-_, _+_, _≤_}
+-- `chart::draw_chart` meets its contract: the test decides which of the two words is the chart's.
+use mathlib.Core.Path.{_≡_, sym, ap, _∙_}
+use mathlib.Core.Bool.{Bool, true, false, cond}
+use mathlib.Core.List.{List}
+use Prim.Native.Nat.{ℕ, _≤_, _<_}
 use native.Mathlib.Omega.{arith}
+use borrow.Author.Needs.{needs}
+use borrow.Author.Tests.{lt-ltb, le-ltb}
 use denote.Ref.{now}
 use lib.Dec.{eqb}
-use Rattle.chart.proofs.Charted.{plan-long, spare-is, on-drawn, off-drawn, spare-drawn}
-use borrow.Author.Needs.{needs}
+use lib.ListN.{length}
+use lib.Seq.{sets}
+use Rattle.plans.specs.Rows.{stepsIn, stepAt}
+use Rattle.plans.specs.declared.Limits.{Limits}
+use Rattle.tables.specs.Tables.{ampleOn, ampleOff, onAt, offAt, onSpared, offSpared}
+use Rattle.chart.specs.Joining.{joining}
 use Rattle.chart.proofs.draw_chart.Statement.{statement}
 use Rattle.chart.proofs.draw_chart.Tie as tie
 
-sub-spare : tie.Need-sub-spare
-sub-spare c = search needs
+module _ (spare start : ℕ) (ss : List Limits) (plan out : List ℕ) (n : ℕ) where
+  -- an output with the words joined, by the test of how many switches there are to spare
+  abbrev onOut : Bool → List ℕ
+  onOut t = sets out 0 (joining (λ i. cond t (ampleOn (stepAt ss i)) (onAt (eqb spare 0) start ss plan i)) out 0 n)
 
-far-requires : tie.Need-far-requires
-far-requires c κs = search needs
+  abbrev offOut : ℕ → Bool → List ℕ
+  offOut us t = sets out 0 (joining (λ i. cond t (ampleOff us (stepAt ss i)) (offAt (eqb spare 0) us start ss plan i)) out 0 n)
+
+  -- two or more
+  on-ample : {l : List ℕ} → 1 < spare → l ≡ onOut true → l ≡ sets out 0 (joining (onSpared spare start ss plan) out 0 n)
+  unfolding onSpared
+  on-ample h e = e ∙ sym (ap onOut (lt-ltb 1 spare h))
+
+  off-ample : {l : List ℕ} → (us : ℕ) → 1 < spare → l ≡ offOut us true → l ≡ sets out 0 (joining (offSpared us spare start ss plan) out 0 n)
+  unfolding offSpared
+  off-ample us h e = e ∙ sym (ap (offOut us) (lt-ltb 1 spare h))
+
+  -- none or one
+  on-scarce : {l : List ℕ} → spare ≤ 1 → l ≡ onOut false → l ≡ sets out 0 (joining (onSpared spare start ss plan) out 0 n)
+  unfolding onSpared
+  on-scarce h e = e ∙ sym (ap onOut (le-ltb 1 spare h))
+
+  off-scarce : {l : List ℕ} → (us : ℕ) → spare ≤ 1 → l ≡ offOut us false → l ≡ sets out 0 (joining (offSpared us spare start ss plan) out 0 n)
+  unfolding offSpared
+  off-scarce us h e = e ∙ sym (ap (offOut us) (le-ltb 1 spare h))
+
+ample-requires : tie.Need-ample-requires
+ample-requires c κs = search needs
 
 same-length : tie.Need-same-length
 same-length c = search needs
@@ -23,17 +54,14 @@ same-length-2 c = search needs
 
 returns : tie.Need-returns
 returns c =
-    let a = c .before .before .before .before .before .before .before .before .before .before .before .before .before .before .before .args in
-    let p = c .before .before .before .before .before .before .before .before .before .before .before .before .before .before .before .pre in
-    let far = c .before .before .before .before .far .ensures in
-    let spare : a .total + 2 ≤ a .bound = omega (arith, p .0 .within, c .before .before .before .before .before .before .before .if1 .taken) in
-    (spare-drawn (p .0) true spare (now (a .on)) _ (p .1 .0) (far .0), spare-drawn (p .0) false spare (now (a .off)) _ (p .1 .1) (far .1))
+    let a = c .before .before .before .before .before .before .before .before .before .before .before .before .args in
+    let ss = stepsIn (now (a .steps)) in
+    let h : 1 < a .spare = omega (arith, c .before .before .before .before .before .before .before .if1 .taken) in
+    let r = c .before .before .before .before .ample .ensures in
+    (on-ample (a .spare) (a .start) ss (now (a .plan)) (now (a .on)) (length ss) h (r .0), off-ample (a .spare) (a .start) ss (now (a .plan)) (now (a .off)) (length ss) (a .us) h (r .1))
 
-units-below-requires : tie.Need-units-below-requires
-units-below-requires c κs = search needs
-
-near-requires : tie.Need-near-requires
-near-requires c κs = let p = c .before .before .before .before .before .before .before .before .before .before .before .pre in (p .0 .steps, (plan-long (p .0), p .1))
+scarce-requires : tie.Need-scarce-requires
+scarce-requires c κs = search needs
 
 same-length-3 : tie.Need-same-length-3
 same-length-3 c = search needs
@@ -43,27 +71,21 @@ same-length-4 c = search needs
 
 returns-2 : tie.Need-returns-2
 returns-2 c =
-    let a = c .before .before .before .before .before .before .before .before .before .before .before .before .before .before .before .before .args in
-    let p = c .before .before .before .before .before .before .before .before .before .before .before .before .before .before .before .before .pre in
-    let us = c .before .before .before .before .before .before .before .units-below in
-    let near = c .before .before .before .before .near .ensures in
-    let tight = eqb (a .bound - a .total) 0 in
-    let spare = spare-is (a .bound) (a .total) (p .0 .within) (omega (arith, c .before .before .before .before .before .before .before .before .if1 .left)) in (
-      on-drawn (p .0) tight spare (now (a .on)) _ (p .1 .0) (near .0),
-      off-drawn (p .0) tight spare (now (a .off)) _ (p .1 .1) (us .result) (us .ensures) (near .1),
-    )
+    let a = c .before .before .before .before .before .before .before .before .before .before .before .before .args in
+    let ss = stepsIn (now (a .steps)) in
+    let h : a .spare ≤ 1 = omega (arith, c .before .before .before .before .before .before .before .if1 .left) in
+    let r = c .before .before .before .before .scarce .ensures in
+    (on-scarce (a .spare) (a .start) ss (now (a .plan)) (now (a .on)) (length ss) h (r .0), off-scarce (a .spare) (a .start) ss (now (a .plan)) (now (a .off)) (length ss) (a .us) h (r .1))
 
 pub draw-chart-spec : {M : Type 1} → statement M
 draw-chart-spec =
     tie.close
     (tie.spec
-    sub-spare
-    far-requires
+    ample-requires
     same-length
     same-length-2
     returns
-    units-below-requires
-    near-requires
+    scarce-requires
     same-length-3
     same-length-4
     returns-2)

@@ -29,18 +29,20 @@ part-put-step-lines-end c = search needs
 
 put-step-lines-requires : tie.Need-put-step-lines-requires
 put-step-lines-requires c κs =
-    let n = c .before .before .before .before .before .before .before .before .before .args .x .steps in
-    let sets = now (c .before .before .before .before .before .before .before .before .before .args .sets) in
-    let p = c .before .before .before .before .before .before .before .before .before .pre in
+    let k = c .before .before .before .before .before .before .before .before .before .before in
+    let n = k .args .x .steps in
+    let sets = now (k .args .sets) in
+    let p = k .pre in
     let long : length (take (n - 0) sets) ≡ n = length-take-le (n - 0) sets (omega arith) ∙ omega arith in
     let first = c .before .before .before .before .put-first-line .ensures in
     (omega arith, omega (arith, first .1, placed-length (first .0)))
 
 put-total-line-requires : tie.Need-put-total-line-requires
 put-total-line-requires c κs =
-    let n = c .before .before .before .before .before .before .before .before .before .before .before .before .before .args .x .steps in
-    let sets = now (c .before .before .before .before .before .before .before .before .before .before .before .before .before .args .sets) in
-    let p = c .before .before .before .before .before .before .before .before .before .before .before .before .before .pre in
+    let k = c .before .before .before .before .before .before .before .before .before .before .before .before .before .before in
+    let n = k .args .x .steps in
+    let sets = now (k .args .sets) in
+    let p = k .pre in
     let long : length (take (n - 0) sets) ≡ n = length-take-le (n - 0) sets (omega arith) ∙ omega arith in
     let first = c .before .before .before .before .before .before .before .before .put-first-line .ensures in
     let steps = c .before .before .before .put-step-lines .ensures in
@@ -52,10 +54,12 @@ same-length c = search needs
 returns : tie.Need-returns
 unfolding planLines
 returns c =
-    let x = c .before .before .before .before .before .before .before .before .before .before .before .before .before .before .before .before .args .x in
-    let all : x .steps - 0 ≡ x .steps = omega arith in
+    let k = c .before .before .before .before .before .before .before .before .before .before .before .before .before .before .before .before .before .args in
+    let h = k .x .header in
+    let n = k .x .steps in
+    let all : n - 0 ≡ n = omega arith in
     placed-as
-    (ap (λ (n : ℕ). firstLine (x .units) (x .steps) (x .bound) ++ stepLines 1 (x .start) (take n (now (c .before .before .before .before .before .before .before .before .before .before .before .before .before .before .before .before .args .sets))) ++ totalLine (c .before .before .before .before .before .before .before .before .before .before .before .before .before .before .before .before .args .total)) all)
+    (ap (λ (m : ℕ). firstLine (h .units) n (h .bound) ++ stepLines 1 (h .start) (take m (now (k .sets))) ++ totalLine (k .total)) all)
     (placed-then (placed-then (c .before .before .before .before .before .before .before .before .before .before .before .put-first-line .ensures .0) (c .before .before .before .before .before .before .put-step-lines .ensures .0)) (c .before .before .put-total-line .ensures))
 
 pub put-plan-spec : {M : Type 1} → statement M

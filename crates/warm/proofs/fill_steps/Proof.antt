@@ -44,11 +44,11 @@ use denote.Triple.Entry.{onEntry}
 use denote.Triple.Spec.{Meets, tripleOf}
 use denote.Triple.Table.{entered, cited}
 use denote.Triple.Walked.{says, needs, Stays, stay-none, stay-none-slice, stay-slice, walkOf, Walks, ends-at, walked, goes-none, goes-none-slice, goes-slice, walk-meets}
-use Rattle.sheet.specs.declared.Step.{Step}
-use Rattle.sheet.specs.Chain.{Inside, stepsFrom}
-use Rattle.sheet.specs.Format.{nextOf, stepOf}
-use Rattle.sheet.proofs.Step as T
-use Rattle.sheet.proofs.Step.Laws as T′
+use Rattle.format.specs.declared.Step.{Step}
+use Rattle.format.specs.Chain.{Inside, stepsFrom}
+use Rattle.format.specs.Format.{nextOf, stepOf}
+use Rattle.format.proofs.Step as T
+use Rattle.format.proofs.Step.Laws as T′
 use Rattle.sheet.proofs.record.follow as follow
 use Rattle.sheet.proofs.record.follow.Symbol as follow-def
 use Rattle.sheet.proofs.record.follow.Symbol.{name as #follow}

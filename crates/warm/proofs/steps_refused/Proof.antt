@@ -1,6 +1,6 @@
 -- `warm::steps_refused` meets its contract.
 use mathlib.Core.Path.{refl}
-use Rattle.warm.specs.Entries.{stepsReply}
+use Rattle.promises.specs.Steps.{stepsReply}
 use Rattle.warm.proofs.steps_refused.Statement.{statement}
 use Rattle.warm.proofs.steps_refused.Tie as tie
 

@@ -1,22 +1,35 @@
 -- `warm::steps_reply` meets its contract.
 use mathlib.Core.Path.{_≡_, sym, ap, _∙_}
+use mathlib.Core.List.{List}
+use Prim.Native.Nat.{ℕ}
 use borrow.Author.Needs.{needs}
 use denote.Ref.{now}
-use Rattle.sheet.specs.declared.Summary.{Summary}
-use Rattle.sheet.specs.Answer.{Given}
-use Rattle.sheet.specs.Reading.{Campaign, campaignOf}
-use Rattle.sheet.specs.Told.{readTold, summaryOf}
-use Rattle.warm.specs.Entries.{stepsReply}
-use Rattle.warm.proofs.Steps.{is-summary, answer-refused, answer-short, answer-given}
+use Rattle.format.specs.declared.Summary.{Summary}
+use Rattle.format.specs.Answer.{Given}
+use Rattle.format.specs.Reading.{campaignOf}
+use Rattle.format.specs.Stages.{summaryOf}
+use Rattle.sheet.specs.Told.{readTold}
+use Rattle.promises.specs.Steps.{stepsReply}
+use Rattle.promises.proofs.Read.{was-opened}
+use Rattle.promises.proofs.Steps.{answer-refused, answer-short, answer-given}
 use Rattle.warm.proofs.steps_reply.Statement.{statement}
 use Rattle.warm.proofs.steps_reply.Tie as tie
 
--- a reply with a campaign's summary
-replied : (x : Summary) (c : Campaign) → summaryOf c ≡ x
-    → record { refusal = 0; place = 0; units = x .units; steps = x .steps; bound = x .bound; reserved = 0; start = x .start } ≡ stepsReply (Given c)
-unfolding stepsReply
-replied x c e =
-    λ i. record { refusal = 0; place = 0; units = sym e i .units; steps = sym e i .steps; bound = sym e i .bound; reserved = 0; start = sym e i .start }
+-- a reply with a sheet's summary
+replied : (s : List ℕ) (x : Summary) → summaryOf s ≡ x
+    → record { refusal = 0; place = 0; units = x .header .units; steps = x .steps; bound = x .header .bound; reserved = 0; start = x .header .start }
+    ≡ stepsReply (Given (campaignOf s))
+unfolding stepsReply campaignOf
+replied s x e =
+    λ i. record {
+      refusal = 0;
+      place = 0;
+      units = sym e i .header .units;
+      steps = sym e i .steps;
+      bound = sym e i .header .bound;
+      reserved = 0;
+      start = sym e i .header .start;
+    }
 
 read-requires : tie.Need-read-requires
 read-requires c κs = search needs
@@ -50,10 +63,10 @@ returns-2 c =
 
 returns-3 : tie.Need-returns-3
 returns-3 c =
-    let a = c .before .before .before .before .before .before .before .args in
+    let a = c .before .before .before .before .before .before .before .before .args in
     let s = now (a .sheet) in
-    let read = sym (c .before .before .before .before .before .read .ensures) ∙ ap readTold (c .before .before .before .x2 .given .1) in
-    replied (c .before .before .before .x2 .given .0 .0) (campaignOf s) (is-summary s (a .places) read) ∙ ap stepsReply (answer-given s (a .places) read (c .if1 .left))
+    let read = sym (c .before .before .before .before .before .before .read .ensures) ∙ ap readTold (c .before .before .before .before .x2 .given .1) in
+    replied s _ (was-opened s read .summary) ∙ ap stepsReply (answer-given s (a .places) read (c .before .if1 .left))
 
 pub steps-reply-spec : {M : Type 1} → statement M
 steps-reply-spec =

@@ -38,15 +38,15 @@ use denote.Triple.Entry.{onEntry}
 use denote.Triple.Spec.{Meets, tripleOf}
 use denote.Triple.Table.{entered, cited}
 use denote.Triple.Walked.{says, Stays, stay-none-slice, gave-slice, walkOf, Walks, ends-at, walked, goes-none-slice, goes-gave-slice, walk-meets}
-use Rattle.sheet.specs.declared.Step.{Step}
-use Rattle.sheet.specs.Chain.{stepsFrom}
-use Rattle.sheet.proofs.Step as T
-use Rattle.warm.specs.declared.StepsReply.{StepsReply}
-use Rattle.warm.specs.Entries.{stepsAnswer, stepsReply, warmSteps}
-use Rattle.warm.proofs.Steps.{fill-asked, filled}
+use Rattle.format.specs.declared.Step.{Step}
+use Rattle.format.specs.Chain.{stepsFrom}
+use Rattle.format.proofs.Step as T
+use Rattle.promises.specs.declared.StepsReply.{StepsReply}
+use Rattle.promises.specs.Steps.{stepsAnswer, stepsReply, warmSteps}
+use Rattle.promises.proofs.Steps.{fill-asked, filled}
 use Rattle.warm.proofs.Walk.{here, value, Lent, twice, calls-on}
-use Rattle.warm.proofs.StepsReply as R
-use Rattle.warm.proofs.StepsReply.Laws as R′
+use Rattle.promises.proofs.StepsReply as R
+use Rattle.promises.proofs.StepsReply.Laws as R′
 use Rattle.warm.proofs.steps_reply as steps-reply
 use Rattle.warm.proofs.steps_reply.Symbol as steps-reply-def
 use Rattle.warm.proofs.steps_reply.Symbol.{name as #steps-reply}

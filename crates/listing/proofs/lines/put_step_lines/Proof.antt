@@ -4,7 +4,7 @@ use Prim.Native.Nat.{_-_, _≤_, _<_}
 use native.Mathlib.Omega.{arith}
 use lib.ListN.{length}
 use Rattle.units.specs.Sets.{size}
-use Rattle.switch.specs.Switch.{switches}
+use Rattle.plans.specs.Switch.{switches}
 use Rattle.units.proofs.Sets.{size-below}
 use Rattle.listing.proofs.Places.{placed-length}
 use Rattle.listing.proofs.Stepping.{Stepping, started, onward, ended}
@@ -48,7 +48,7 @@ put-step-line-requires c κs =
     let l = c .before .before .before .before .before .loop in
     let h = c .before .before .before .before .loop-test .taken in
     let p = c .before .before .before .before .before .before .before .before .pre in
-    ((omega arith, few (c .before)), omega (arith, l .inv .1 .room, l .inv .1 .placed .ended, placed-length (l .inv .1 .placed)))
+    (omega arith, (few (c .before), omega (arith, l .inv .1 .room, l .inv .1 .placed .ended, placed-length (l .inv .1 .placed))))
 
 add-i : tie.Need-add-i Inv-loop μ-loop
 add-i c = search needs

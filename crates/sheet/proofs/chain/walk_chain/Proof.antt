@@ -7,7 +7,8 @@ use borrow.Author.Needs.{needs}
 use denote.Ref.{now}
 use Rattle.sheet.specs.declared.chain.Walk.{Walk}
 use Rattle.sheet.specs.Walking.{isMet, onto}
-use Rattle.sheet.proofs.Chains.{Walked, started, ended, led-out, met-again, room, onward, met-room}
+use Rattle.format.proofs.Chains.{met-room}
+use Rattle.sheet.proofs.Walks.{Walked, started, ended, led-out, met-again, room, onward}
 use Rattle.sheet.proofs.chain.walk_chain.Statement.{statement}
 use Rattle.sheet.proofs.chain.walk_chain.Tie as tie
 
@@ -42,7 +43,7 @@ has-met-requires : tie.Need-has-met-requires Inv-walk μ-walk
 has-met-requires c κs = omega arith
 
 step-onto-requires : tie.Need-step-onto-requires Inv-walk μ-walk
-step-onto-requires c κs = (omega arith, omega arith, omega (arith, room (c .before .before .before .before .before .walk .inv) (omega (arith, c .before .before .before .before .follow .ensures .0)) (omega arith) (omega (arith, c .before .before .before .before .follow .ensures .0)) (ap (isMet (c .before .before .before .before .before .walk .walk)) (sym (c .before .before .before .before .follow .ensures .0)) ∙ sym (c .before .has-met .ensures) ∙ c .if3 .left)))
+step-onto-requires c κs = (omega arith, (omega arith, omega (arith, room (c .before .before .before .before .before .walk .inv) (omega (arith, c .before .before .before .before .follow .ensures .0)) (omega arith) (omega (arith, c .before .before .before .before .follow .ensures .0)) (ap (isMet (c .before .before .before .before .before .walk .walk)) (sym (c .before .before .before .before .follow .ensures .0)) ∙ sym (c .before .has-met .ensures) ∙ c .if3 .left))))
 
 walk-less : tie.Need-walk-less Inv-walk μ-walk
 unfolding onto

@@ -6,8 +6,8 @@ use borrow.Author.Needs.{needs}
 use borrow.Author.Tests.{eq-eqb, ne-eqb, lt-ltb, le-ltb}
 use denote.Ref.{now}
 use lib.ListN.{length}
-use Rattle.sheet.specs.Format.{headerSize, longest, editionOf, edition}
-use Rattle.sheet.proofs.Answers.{refused-by, passed-by}
+use Rattle.format.specs.Format.{headerSize, longest, editionOf, edition}
+use Rattle.format.proofs.Answers.{refused-by, passed-by}
 use Rattle.sheet.proofs.head.read_header.Statement.{statement}
 use Rattle.sheet.proofs.head.read_header.Tie as tie
 
@@ -34,6 +34,9 @@ returns-3 c =
 
 byte-at-requires : tie.Need-byte-at-requires
 byte-at-requires c κs = search needs
+
+cast-t9 : tie.Need-cast-t9
+cast-t9 c = search needs
 
 returns-4 : tie.Need-returns-4
 returns-4 c =
@@ -64,6 +67,7 @@ read-header-spec =
     has-letters-requires
     returns-3
     byte-at-requires
+    cast-t9
     returns-4
     read-numbers-requires
     returns-5)

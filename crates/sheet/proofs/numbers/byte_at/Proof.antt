@@ -1,5 +1,5 @@
 -- `sheet::numbers::byte_at` meets its contract.
-use Rattle.sheet.specs.Numbers.{byteAt}
+use Rattle.format.specs.Numbers.{byteAt}
 use borrow.Author.Needs.{needs}
 use Rattle.sheet.proofs.numbers.byte_at.Statement.{statement}
 use Rattle.sheet.proofs.numbers.byte_at.Tie as tie

@@ -1,5 +1,5 @@
 -- `sheet::numbers::u16_at` meets its contract.
-use Rattle.sheet.specs.Numbers.{u16At}
+use Rattle.format.specs.Numbers.{u16At}
 use borrow.Author.Needs.{needs}
 use Rattle.sheet.proofs.numbers.u16_at.Statement.{statement}
 use Rattle.sheet.proofs.numbers.u16_at.Tie as tie

@@ -1,5 +1,5 @@
 -- `sheet::numbers::u32_at` meets its contract.
-use Rattle.sheet.specs.Numbers.{u32At}
+use Rattle.format.specs.Numbers.{u32At}
 use borrow.Author.Needs.{needs}
 use Rattle.sheet.proofs.numbers.u32_at.Statement.{statement}
 use Rattle.sheet.proofs.numbers.u32_at.Tie as tie

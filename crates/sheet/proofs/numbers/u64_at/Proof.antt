@@ -1,5 +1,5 @@
 -- `sheet::numbers::u64_at` meets its contract.
-use Rattle.sheet.specs.Numbers.{u64At}
+use Rattle.format.specs.Numbers.{u64At}
 use borrow.Author.Needs.{needs}
 use Rattle.sheet.proofs.numbers.u64_at.Statement.{statement}
 use Rattle.sheet.proofs.numbers.u64_at.Tie as tie

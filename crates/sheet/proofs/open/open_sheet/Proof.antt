@@ -34,10 +34,10 @@ use denote.Triple.Entry.{Vals, onEntry}
 use denote.Triple.Table.{entered}
 use denote.Triple.Walked.{says, Stays, stay-none, stay-none-slice, walkOf, goes-none, goes-none-slice, ends-at, walked, walk-meets}
 use denote.Exit.{yes}
-use Rattle.sheet.specs.declared.Header.{Header}
+use Rattle.format.specs.declared.Header.{Header}
 use Rattle.sheet.specs.declared.Sheet.{Sheet}
-use Rattle.sheet.proofs.Header as P
-use Rattle.sheet.proofs.Header.Laws as P′
+use Rattle.format.proofs.Header as P
+use Rattle.format.proofs.Header.Laws as P′
 use Rattle.sheet.proofs.Sheet as T
 use Rattle.sheet.proofs.Sheet.Laws as T′
 use Rattle.sheet.proofs.open.open_sheet.Key.{name as #sheet·open·open-sheet}

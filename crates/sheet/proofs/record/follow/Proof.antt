@@ -3,8 +3,8 @@ use mathlib.Core.Path.{sym, ap, _∙_}
 use Prim.Native.Nat.{ℕ, _+_}
 use borrow.Author.Needs.{needs}
 use denote.Ref.{now}
-use Rattle.sheet.specs.Numbers.{u16At}
-use Rattle.sheet.proofs.Records.{next-first, next-after}
+use Rattle.format.specs.Numbers.{u16At}
+use Rattle.format.proofs.Records.{next-first, next-after}
 use Rattle.sheet.proofs.record.follow.Statement.{statement}
 use Rattle.sheet.proofs.record.follow.Tie as tie
 

@@ -1,6 +1,11 @@
 -- `sheet::record::step_at` meets its contract.
-use Rattle.sheet.specs.Format.{stepOf}
-use Rattle.sheet.specs.Numbers.{byteAt}
+use mathlib.Core.Path.{_≡_}
+use mathlib.Core.List.{List}
+use Prim.Native.Nat.{ℕ, _+_}
+use denote.Ref.{now}
+use lib.ListN.{getD}
+use Rattle.format.specs.Format.{recordOffset, stepOf}
+use Rattle.format.specs.Numbers.{byteAt, u32At, u64At}
 use borrow.Author.Needs.{needs}
 use Rattle.sheet.proofs.record.step_at.Statement.{statement}
 use Rattle.sheet.proofs.record.step_at.Tie as tie
@@ -38,9 +43,15 @@ u32-at-requires c κs = search needs
 cast-t15 : tie.Need-cast-t15
 cast-t15 c = search needs
 
-returns : tie.Need-returns
+-- the step, from its numbers as they were read
+made : (s : List ℕ) (j : ℕ) {at lower upper tag : ℕ} → at ≡ recordOffset j → lower ≡ u64At s at → upper ≡ u64At s (at + 8) → tag ≡ u32At s (at + 20)
+    → record { lower = lower; upper = upper; least = getD s (at + 16) 0; greatest = getD s (at + 17) 0; tag = tag } ≡ stepOf s j
 unfolding stepOf byteAt
-returns c = cc
+made s j o l u t = rw (l, u, t, o)
+
+returns : tie.Need-returns
+returns c =
+    made (now (c .before .before .before .before .before .before .before .args .s)) (c .before .before .before .before .before .before .before .args .j) (c .before .before .before .before .before .record-offset .ensures) (c .before .before .before .before .u64-at .ensures) (c .before .before .before .u64-at2 .ensures) (c .u32-at .ensures .0)
 
 pub step-at-spec : {M : Type 1} → statement M
 step-at-spec =

@@ -1,11 +1,11 @@
 -- `switch::check::allows` meets its contract: each way out rewrites the test's parts by what the tests before it found.
 use mathlib.Core.Path.{sym, _∙_}
-use Prim.Native.Nat.{_<_}
+use Prim.Native.Nat.{_<_, _≤_}
 use native.Mathlib.Omega.{arith}
 use borrow.Author.Needs.{needs}
 use borrow.Author.Tests.{le-leb, lt-leb, not-true, not-false}
 use Rattle.units.specs.Sets.{size}
-use Rattle.switch.specs.Plans.{allows}
+use Rattle.plans.specs.Plans.{allows}
 use Rattle.switch.proofs.check.allows.Statement.{statement}
 use Rattle.switch.proofs.check.allows.Tie as tie
 
@@ -26,17 +26,20 @@ returns-2 c = simp (sym (c .before .before .before .is-subset .ensures) ∙ not-
 size-requires : tie.Need-size-requires
 size-requires c κs = search needs
 
+cast-many : tie.Need-cast-many
+cast-many c = search needs
+
 returns-3 : tie.Need-returns-3
 unfolding allows
 returns-3 c =
-    let a = c .before .before .before .before .before .before .args in
-    let few : size (a .x) < a .least = omega (arith, c .before .size .ensures) in
-    simp (sym (c .before .before .before .before .before .is-subset .ensures) ∙ not-false _ (c .before .before .before .before .if1 .left), sym (c .before .before .before .is-subset2 .ensures) ∙ not-false _ (c .before .before .if2 .left), lt-leb _ _ few)
+    let few : size (c .before .before .before .before .before .before .before .args .x) < c .before .before .before .before .before .before .before .args .s .least = omega (arith, c .before .before .size .ensures, c .if3 .taken) in
+    simp (sym (c .before .before .before .before .before .before .is-subset .ensures) ∙ not-false _ (c .before .before .before .before .before .if1 .left), sym (c .before .before .before .before .is-subset2 .ensures) ∙ not-false _ (c .before .before .before .if2 .left), lt-leb _ _ few)
 
 returns-4 : tie.Need-returns-4
 unfolding allows
 returns-4 c =
-    simp (sym (c .before .before .before .before .before .is-subset .ensures) ∙ not-false _ (c .before .before .before .before .if1 .left), sym (c .before .before .before .is-subset2 .ensures) ∙ not-false _ (c .before .before .if2 .left), le-leb _ _ (c .if3 .left), sym (c .before .size .ensures))
+    let enough : c .before .before .before .before .before .before .before .before .args .s .least ≤ size (c .before .before .before .before .before .before .before .before .args .x) = omega (arith, c .before .before .before .size .ensures, c .before .if3 .left) in
+    simp (sym (c .before .before .before .before .before .before .before .is-subset .ensures) ∙ not-false _ (c .before .before .before .before .before .before .if1 .left), sym (c .before .before .before .before .before .is-subset2 .ensures) ∙ not-false _ (c .before .before .before .before .if2 .left), le-leb _ _ enough, c .before .before .before .size .ensures)
 
 pub allows-spec : {M : Type 1} → statement M
 allows-spec =
@@ -47,5 +50,6 @@ allows-spec =
     is-subset-requires-2
     returns-2
     size-requires
+    cast-many
     returns-3
     returns-4)

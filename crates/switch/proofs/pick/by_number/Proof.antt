@@ -4,8 +4,8 @@ use Prim.Native.Nat.{ℕ, _-_, _^_, _<_}
 use native.Mathlib.Omega.{arith}
 use borrow.Author.Needs.{needs}
 use Rattle.units.proofs.Sets.{unit-below, size-pos, remove-le}
-use Rattle.switch.specs.Columns.{toward}
-use Rattle.switch.specs.Support.{tieOrder}
+use Rattle.switch.specs.Toward.{toward}
+use Rattle.plans.specs.Support.{tieOrder}
 use Rattle.switch.proofs.Picking.{Found, first-has, found-none, found-one, found-all}
 use Rattle.switch.proofs.pick.by_number.Statement.{statement}
 use Rattle.switch.proofs.pick.by_number.Tie as tie

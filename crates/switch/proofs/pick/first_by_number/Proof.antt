@@ -2,7 +2,7 @@
 use mathlib.Core.Path.{sym, subst}
 use mathlib.Core.Bool.{Bool}
 use borrow.Author.Needs.{needs}
-use Rattle.switch.specs.Columns.{FirstByNumber}
+use Rattle.switch.specs.Toward.{FirstByNumber}
 use Rattle.switch.proofs.pick.first_by_number.Statement.{statement}
 use Rattle.switch.proofs.pick.first_by_number.Tie as tie
 

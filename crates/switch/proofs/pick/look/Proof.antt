@@ -5,9 +5,9 @@ use Prim.Native.Nat.{ℕ, _-_}
 use native.Mathlib.Omega.{arith}
 use borrow.Author.Needs.{needs}
 use Rattle.units.specs.Sets.{union, intersection, difference, size}
-use Rattle.switch.specs.Columns.{toward}
+use Rattle.switch.specs.Toward.{toward}
 use Rattle.switch.specs.Looked.{Looked}
-use Rattle.switch.specs.Support.{taken, tieOrder}
+use Rattle.plans.specs.Support.{taken, tieOrder}
 use Rattle.switch.proofs.Picking.{firstGroup, endGroup, looked-first, looked-far, looked-end, end-has}
 use Rattle.switch.proofs.pick.look.Statement.{statement}
 use Rattle.switch.proofs.pick.look.Tie as tie
@@ -39,6 +39,9 @@ choose-requires c κs = search needs
 size-requires : tie.Need-size-requires
 size-requires c κs = search needs
 
+cast-many : tie.Need-cast-many
+cast-many c = search needs
+
 by-number-requires : tie.Need-by-number-requires
 by-number-requires c κs = search needs
 
@@ -57,6 +60,9 @@ sub-after c = search needs
 
 size-requires-2 : tie.Need-size-requires-2
 size-requires-2 c κs = search needs
+
+cast-others : tie.Need-cast-others
+cast-others c = search needs
 
 choose-requires-2 : tie.Need-choose-requires-2
 choose-requires-2 c κs = search needs
@@ -116,10 +122,12 @@ look-spec =
     difference-requires-2
     choose-requires
     size-requires
+    cast-many
     by-number-requires
     returns
     sub-after
     size-requires-2
+    cast-others
     choose-requires-2
     union-requires
     sub-by-number

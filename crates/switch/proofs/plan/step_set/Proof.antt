@@ -1,30 +1,44 @@
--- `switch::plan::step_set` meets its contract: units leave, units join, or neither, as the definition says.
-use mathlib.Core.Path.{_≡_, ap, ap₂, _∙_}
+-- `switch::plan::step_set` meets its contract: it follows the definition line by line, and as many units can leave and join as are asked for.
+use mathlib.Core.Path.{_≡_, sym, ap, subst, _∙_}
 use mathlib.Core.Bool.{true}
-use Prim.Native.Nat.{ℕ, _-_}
+use Prim.Native.Nat.{_-_, _≤_}
 use native.Mathlib.Omega.{arith}
 use borrow.Author.Needs.{needs}
 use denote.Ref.{now}
-use lib.ListN.{getD}
-use Rattle.units.specs.Sets.{union, difference, size}
-use Rattle.switch.specs.Columns.{toward, rankingAt}
-use Rattle.switch.specs.Support.{taken}
-use Rattle.switch.proofs.Ranks.{ranks-ordered}
-use Rattle.switch.proofs.Supporting.{begun, leave-room, join-room, support-leave, support-join, support-stay}
+use Rattle.units.specs.Limits.{hasFeasible}
+use Rattle.units.specs.Sets.{difference, size}
+use Rattle.plans.specs.declared.Limits.{Limits}
+use Rattle.plans.specs.Rows.{stepsIn, rankingAt}
+use Rattle.plans.specs.Support.{taken, supportSet}
+use Rattle.plans.proofs.Laid.{feasible-at}
+use Rattle.plans.proofs.Ranks.{ranks-ordered}
+use Rattle.switch.specs.Toward.{toward}
+use Rattle.switch.proofs.Supporting.{leave-room, join-room, kept-many, support-by}
 use Rattle.switch.proofs.plan.step_set.Statement.{statement}
 use Rattle.switch.proofs.plan.step_set.Tie as tie
 
-mul-must : tie.Need-mul-must
-mul-must c = search needs
+-- the step has a feasible set
+feasible : (c : tie.After-step-at) → let s = c .step-at .result in hasFeasible (s .lower) (s .upper) (s .least) (s .greatest) ≡ true
+feasible c =
+    let k = c .before .before in
+    subst (λ (s : Limits). hasFeasible (s .lower) (s .upper) (s .least) (s .greatest) ≡ true) (sym (c .step-at .ensures))
+    (feasible-at (stepsIn (now (k .args .rows))) (k .args .i) (k .pre .1 .1) (k .pre .1 .0))
 
-shared-slice-read-must : tie.Need-shared-slice-read-must
-shared-slice-read-must c = search needs
+-- as many units can leave as are asked for
+room : (c : tie.After-excess) → c .excess .result ≤ size (difference (c .before .before .union .result) (c .before .before .before .before .step-at .result .lower))
+room c = omega (arith, leave-room _ _ _ _ (feasible (c .before .before .before .before)) (c .before .before .union .result), c .excess .ensures, c .before .size .ensures)
 
-mul-may : tie.Need-mul-may
-mul-may c = search needs
+-- as many are kept as do not leave
+kept : (c : tie.After-difference2) → c .before .before .before .before .size .result - c .before .before .before .excess .result ≡ size (c .difference2 .result)
+kept c =
+    let k = c .before .before .before .before .before .before .before .before .before .args in
+    kept-many (ranks-ordered _ _ _) (c .before .before .before .before .before .union .result) (c .before .before .before .before .before .before .before .step-at .result .lower) (c .before .before .before .before .size .result) (c .before .before .before .excess .result)
+    (c .before .before .before .before .size .ensures) (room (c .before .before .before)) (c .before .by-rank .result)
+    (c .before .by-rank .ensures ∙ ap (taken (toward true (rankingAt (stepsIn (now (k .rows))) (k .i))) (c .before .before .before .excess .result)) (c .before .before .difference .ensures))
+    ∙ sym (ap size (c .difference2 .ensures))
 
-shared-slice-read-may : tie.Need-shared-slice-read-may
-shared-slice-read-may c = search needs
+step-at-requires : tie.Need-step-at-requires
+step-at-requires c κs = (c .before .pre .0, c .before .pre .1 .1)
 
 intersection-requires : tie.Need-intersection-requires
 intersection-requires c κs = search needs
@@ -35,106 +49,65 @@ union-requires c κs = search needs
 size-requires : tie.Need-size-requires
 size-requires c κs = search needs
 
+cast-many : tie.Need-cast-many
+cast-many c = search needs
+
+excess-requires : tie.Need-excess-requires
+excess-requires c κs = search needs
+
 difference-requires : tie.Need-difference-requires
 difference-requires c κs = search needs
 
-sub-by-rank : tie.Need-sub-by-rank
-sub-by-rank c = search needs
-
 by-rank-requires : tie.Need-by-rank-requires
 by-rank-requires c κs =
-    let a = c .before .before .before .before .before .before .before .before .before .args in
-    let l = getD (now (a .lower)) (a .i) 0 in
-    let u = getD (now (a .upper)) (a .i) 0 in
-    let ranks = rankingAt (now (a .lower)) (now (a .upper)) (a .i) in
-    let fits = c .before .before .before .before .before .before .before .before .before .pre .1 .1 in
-    let start : c .before .before .before .union .result ≡ begun l u (a .before) = c .before .before .before .union .ensures ∙ ap (λ (x : ℕ). union x l) (c .before .before .before .before .intersection .ensures) in
-    let many = c .before .before .size .ensures ∙ ap size start in
-    let rest = c .difference .ensures ∙ ap (λ (x : ℕ). difference x l) start in
-    (c .before .before .before .before .before .before .before .before .before .pre .0, (omega arith, omega (arith, leave-room ranks (ranks-ordered _ _ _) l u (a .least) (a .greatest) (a .before) fits, ap size rest)))
+    let p = c .before .before .before .before .before .before .before .pre in
+    (p .0, (omega (arith, p .1 .1), omega (arith, room (c .before), ap size (c .difference .ensures))))
 
 difference-requires-2 : tie.Need-difference-requires-2
 difference-requires-2 c κs = search needs
 
-returns : tie.Need-returns
-returns c =
-    let a = c .before .before .before .before .before .before .before .before .before .before .before .args in
-    let l = getD (now (a .lower)) (a .i) 0 in
-    let u = getD (now (a .upper)) (a .i) 0 in
-    let ranks = rankingAt (now (a .lower)) (now (a .upper)) (a .i) in
-    let fits = c .before .before .before .before .before .before .before .before .before .before .before .pre .1 .1 in
-    let start : c .before .before .before .before .before .union .result ≡ begun l u (a .before) = c .before .before .before .before .before .union .ensures ∙ ap (λ (x : ℕ). union x l) (c .before .before .before .before .before .before .intersection .ensures) in
-    let many = c .before .before .before .before .size .ensures ∙ ap size start in
-    let rest = c .before .before .difference .ensures ∙ ap (λ (x : ℕ). difference x l) start in
-    c .difference2 .ensures
-    ∙ ap₂ difference start (c .before .by-rank .ensures ∙ ap₂ (taken (toward true ranks)) (ap (λ (x : ℕ). x - a .greatest) many) rest)
-    ∙ support-leave ranks (ranks-ordered _ _ _) l u (a .least) (a .greatest) (a .before) fits (omega arith)
+sub-excess : tie.Need-sub-excess
+sub-excess c = omega (arith, c .before .before .before .excess .ensures)
+
+excess-requires-2 : tie.Need-excess-requires-2
+excess-requires-2 c κs = search needs
 
 difference-requires-3 : tie.Need-difference-requires-3
 difference-requires-3 c κs = search needs
 
-sub-by-rank-2 : tie.Need-sub-by-rank-2
-sub-by-rank-2 c = search needs
-
 by-rank-requires-2 : tie.Need-by-rank-requires-2
 by-rank-requires-2 c κs =
-    let a = c .before .before .before .before .before .before .before .before .before .before .args in
-    let l = getD (now (a .lower)) (a .i) 0 in
-    let u = getD (now (a .upper)) (a .i) 0 in
-    let ranks = rankingAt (now (a .lower)) (now (a .upper)) (a .i) in
-    let fits = c .before .before .before .before .before .before .before .before .before .before .pre .1 .1 in
-    let start : c .before .before .before .before .union .result ≡ begun l u (a .before) = c .before .before .before .before .union .ensures ∙ ap (λ (x : ℕ). union x l) (c .before .before .before .before .before .intersection .ensures) in
-    let many = c .before .before .before .size .ensures ∙ ap size start in
-    let rest = c .difference3 .ensures ∙ ap (difference u) start in
-    (c .before .before .before .before .before .before .before .before .before .before .pre .0, (omega arith, omega (arith, join-room ranks (ranks-ordered _ _ _) l u (a .least) (a .greatest) (a .before) fits, ap size rest)))
+    let p = c .before .before .before .before .before .before .before .before .before .before .before .pre in
+    (p .0, (omega (arith, p .1 .1), omega (arith, join-room _ _ _ _ (feasible (c .before .before .before .before .before .before .before .before .before)) (c .before .before .difference2 .result), ap size (c .difference3 .ensures), c .before .excess2 .ensures, kept (c .before .before))))
 
 union-requires-2 : tie.Need-union-requires-2
 union-requires-2 c κs = search needs
 
-returns-2 : tie.Need-returns-2
-returns-2 c =
-    let a = c .before .before .before .before .before .before .before .before .before .before .before .before .args in
-    let l = getD (now (a .lower)) (a .i) 0 in
-    let u = getD (now (a .upper)) (a .i) 0 in
-    let ranks = rankingAt (now (a .lower)) (now (a .upper)) (a .i) in
-    let fits = c .before .before .before .before .before .before .before .before .before .before .before .before .pre .1 .1 in
-    let start : c .before .before .before .before .before .before .union .result ≡ begun l u (a .before) = c .before .before .before .before .before .before .union .ensures ∙ ap (λ (x : ℕ). union x l) (c .before .before .before .before .before .before .before .intersection .ensures) in
-    let many = c .before .before .before .before .before .size .ensures ∙ ap size start in
-    let rest = c .before .before .difference3 .ensures ∙ ap (difference u) start in
-    c .union2 .ensures
-    ∙ ap₂ union start (c .before .by-rank2 .ensures ∙ ap₂ (taken ranks) (ap (λ (x : ℕ). a .least - x) many) rest)
-    ∙ support-join ranks (ranks-ordered _ _ _) l u (a .least) (a .greatest) (a .before) fits (omega arith)
-
-returns-3 : tie.Need-returns-3
-returns-3 c =
-    let a = c .before .before .before .before .before .before .before .before .before .args in
-    let l = getD (now (a .lower)) (a .i) 0 in
-    let u = getD (now (a .upper)) (a .i) 0 in
-    let ranks = rankingAt (now (a .lower)) (now (a .upper)) (a .i) in
-    let fits = c .before .before .before .before .before .before .before .before .before .pre .1 .1 in
-    let start : c .before .before .before .union .result ≡ begun l u (a .before) = c .before .before .before .union .ensures ∙ ap (λ (x : ℕ). union x l) (c .before .before .before .before .intersection .ensures) in
-    let many = c .before .before .size .ensures ∙ ap size start in
-    start ∙ support-stay ranks (ranks-ordered _ _ _) l u (a .least) (a .greatest) (a .before) fits (omega arith) (omega arith)
+returns : tie.Need-returns
+returns c =
+    let k = c .before .before .before .before .before .before .before .before .before .before .before .before .before .args in
+    let ranks = rankingAt (stepsIn (now (k .rows))) (k .i) in
+    support-by ranks (c .before .before .before .before .before .before .before .before .before .before .before .step-at .result) (k .before) (c .before .before .before .before .before .before .before .before .before .before .intersection .ensures) (c .before .before .before .before .before .before .before .before .before .union .ensures) (c .before .before .before .before .before .before .before .before .size .ensures) (c .before .before .before .before .before .before .before .excess .ensures)
+    (c .before .before .before .before .before .before .difference .ensures) (c .before .before .before .before .before .by-rank .ensures) (c .before .before .before .before .difference2 .ensures) (kept (c .before .before .before .before)) (c .before .before .before .excess2 .ensures) (c .before .before .difference3 .ensures)
+    (c .before .by-rank2 .ensures) (c .union2 .ensures)
+    ∙ ap (λ (s : Limits). supportSet ranks s (k .before)) (c .before .before .before .before .before .before .before .before .before .before .before .step-at .ensures)
 
 pub step-set-spec : {M : Type 1} → statement M
 step-set-spec =
     tie.close
     (tie.spec
-    mul-must
-    shared-slice-read-must
-    mul-may
-    shared-slice-read-may
+    step-at-requires
     intersection-requires
     union-requires
     size-requires
+    cast-many
+    excess-requires
     difference-requires
-    sub-by-rank
     by-rank-requires
     difference-requires-2
-    returns
+    sub-excess
+    excess-requires-2
     difference-requires-3
-    sub-by-rank-2
     by-rank-requires-2
     union-requires-2
-    returns-2
-    returns-3)
+    returns)

@@ -1,49 +1,29 @@
--- `warm::charting::hand_out_chart` meets its contract: the total that is compared with the bound is the fewest, and the chart is drawn from the plan.
-use mathlib.Core.Path.{ap, _∙_}
+-- `warm::charting::hand_out_chart` meets its contract: the total that is compared with the bound is the fewest, and what is drawn is the chart.
+use mathlib.Core.Path.{_≡_, refl, ap, _∙_}
+use mathlib.Core.Bool.{true, false}
+use Prim.Native.Nat.{_+_, _-_}
 use native.Mathlib.Omega.{arith}
-use denote.Ref.{now}
-use lib.ListN.{take}
-use Rattle.sheet.specs.Answer.{Given}
-use Rattle.sheet.specs.Format.{startOf}
-use Rattle.warm.specs.Entries.{refusedReply, fullReply, supportOn, onWords, offWords, charted}
-use Rattle.warm.proofs.Decoded.{few-steps, bound-is}
-use Rattle.warm.proofs.Plans.{over-bound, in-bound, plan-taken}
 use borrow.Author.Needs.{needs}
+use denote.Ref.{now}
+use Rattle.plans.specs.Switch.{total}
+use Rattle.format.specs.Answer.{Given}
+use Rattle.format.specs.Format.{boundOf, startOf}
+use Rattle.promises.specs.Chart.{onWords, offWords, charted}
+use Rattle.promises.specs.Common.{refusedReply, fullReply}
+use Rattle.promises.specs.Plan.{supportOn}
+use Rattle.promises.proofs.Charts.{words-length}
+use Rattle.promises.proofs.Plans.{over-bound, in-bound}
+use Rattle.promises.proofs.Read.{was-opened, many-steps, start-is, bound-is, units-are, satisfiable, uppers-below}
+use Rattle.plans.proofs.Laid.{sets-first}
+use Rattle.campaign.proofs.Decoded.{lent-words, lent-plan, many-limits, rows-are, rows-sound}
 use Rattle.warm.proofs.charting.hand_out_chart.Statement.{statement}
 use Rattle.warm.proofs.charting.hand_out_chart.Tie as tie
 
-slice-aggregate-make-plan : tie.Need-slice-aggregate-make-plan
-slice-aggregate-make-plan c = search needs
-
-make-plan-requires : tie.Need-make-plan-requires
-make-plan-requires c κs =
-    (c .before .before .before .before .pre .0, few-steps (now (c .before .before .before .before .args .sheet)) (c .before .before .before .before .pre .0))
+plan-read-requires : tie.Need-plan-read-requires
+plan-read-requires c κs = search needs
 
 refused-requires : tie.Need-refused-requires
 refused-requires c κs = search needs
-
-returns : tie.Need-returns
-unfolding charted supportOn
-returns c =
-    let a = c .before .before .before .before .before .before .before .before .before .args in
-    let s = now (a .sheet) in
-    let e = c .before .before .before .before .before .before .before .before .before .pre .0 in
-    let drawn = charted (startOf s) (onWords s) (offWords s) (now (a .on)) (now (a .off)) in
-    let handed = c .before .before .before .before .make-plan .ensures in
-    let bound = bound-is s e in
-    ap (λ r. (r, (now (a .on), now (a .off)))) (c .refused .ensures ∙ ap (refusedReply 9) (handed .counted))
-    ∙ ap drawn (over-bound s e (omega (arith, handed .counted)))
-
-slice-aggregate-draw : tie.Need-slice-aggregate-draw
-slice-aggregate-draw c = search needs
-
-draw-requires : tie.Need-draw-requires
-unfolding supportOn
-draw-requires c κs =
-    let a = c .before .before .before .before .before .before .before .before .before .before .before .args in
-    let given = c .before .before .before .before .before .before .before .before .before .before .before .pre in
-    let handed = c .before .before .before .before .before .before .make-plan .ensures in
-    (given .0, ((ap (take (a .x .steps)) (handed .written) ∙ plan-taken (now (a .sheet)) (given .0) _, handed .counted), (c .before .before .before .if1 .left, given .1)))
 
 same-length : tie.Need-same-length
 same-length c = search needs
@@ -51,28 +31,101 @@ same-length c = search needs
 same-length-2 : tie.Need-same-length-2
 same-length-2 c = search needs
 
+returns : tie.Need-returns
+unfolding charted
+returns c =
+    let k = c .before .before .before .before .before .before .before .before .before .before .before .before .before .before .before .before in
+    let s = now (k .args .sheet) in
+    let e = k .pre .0 in
+    let counted = c .before .before .before .before .before .before .before .plan-read .ensures .1 .1 in
+    ap (λ r. (r, (now (k .args .on), now (k .args .off)))) (c .refused .ensures ∙ ap (refusedReply 9) counted)
+    ∙ ap (charted (startOf s) (onWords s) (offWords s) (now (k .args .on)) (now (k .args .off)))
+    (over-bound s e (omega (arith, counted, bound-is s e, c .before .if1 .taken)))
+
+cast-n : tie.Need-cast-n
+cast-n c = search needs
+
+mul-end : tie.Need-mul-end
+mul-end c = search needs
+
+sub-draw-whole : tie.Need-sub-draw-whole
+sub-draw-whole c = search needs
+
+part-draw-whole-start : tie.Need-part-draw-whole-start
+part-draw-whole-start c = search needs
+
+part-draw-whole-end : tie.Need-part-draw-whole-end
+part-draw-whole-end c = omega (arith, c .before .before .before .before .before .before .before .before .before .before .before .before .before .before .before .before .before .pre .1 .0, c .before .before .before .before .before .before .before .before .plan-read .kept)
+
+sub-draw-whole-2 : tie.Need-sub-draw-whole-2
+sub-draw-whole-2 c = search needs
+
+part-draw-whole-start-2 : tie.Need-part-draw-whole-start-2
+part-draw-whole-start-2 c = search needs
+
+part-draw-whole-end-2 : tie.Need-part-draw-whole-end-2
+part-draw-whole-end-2 c = omega (arith, c .before .before .before .before .before .before .before .before .before .before .before .before .before .before .before .before .before .before .before .before .pre .1 .1 .0, c .before .before .before .before .before .before .before .before .before .before .before .plan-read .kept)
+
+draw-whole-requires : tie.Need-draw-whole-requires
+unfolding supportOn
+draw-whole-requires c κs =
+    let k = c .before .before .before .before .before .before .before .before .before .before .before .before .before .before .before .before .before .before .before .before .before .before .before in
+    let s = now (k .args .sheet) in
+    let e = k .pre .0 in
+    let made = c .before .before .before .before .before .before .before .before .before .before .before .before .before .before .plan-read .ensures in
+    let few = was-opened s e .sound .few-units in
+    rw (lent-words s e (now (k .args .rows)) (made .0) (k .pre .1 .0), lent-plan s e (now (k .args .sets)) (made .1 .0) (k .pre .1 .1 .0), rows-are s e, start-is s e, units-are s e)
+    (rows-sound s e, (satisfiable s e, (uppers-below s e, (omega (arith, few, units-are s e), (refl, (omega (arith, many-limits s e, k .pre .1 .1 .1 .0), omega (arith, many-limits s e, k .pre .1 .1 .1 .1)))))))
+
+same-length-3 : tie.Need-same-length-3
+same-length-3 c = search needs
+
+same-length-4 : tie.Need-same-length-4
+same-length-4 c = search needs
+
+same-length-5 : tie.Need-same-length-5
+same-length-5 c = search needs
+
+same-length-6 : tie.Need-same-length-6
+same-length-6 c = search needs
+
 returns-2 : tie.Need-returns-2
-unfolding charted supportOn
+unfolding charted onWords offWords
 returns-2 c =
-    let a = c .before .before .before .before .before .before .before .before .before .before .before .before .before .before .before .before .args in
-    let s = now (a .sheet) in
-    let e = c .before .before .before .before .before .before .before .before .before .before .before .before .before .before .before .before .pre .0 in
-    let drawn = charted (startOf s) (onWords s) (offWords s) (now (a .on)) (now (a .off)) in
-    let handed = c .before .before .before .before .before .before .before .before .before .before .before .make-plan .ensures in
-    let filled = c .before .before .before .before .draw .ensures in
-    let bound = bound-is s e in
-    (λ i. (fullReply (handed .counted i) 0, (filled .0 i, filled .1 i))) ∙ ap drawn (in-bound s e (omega (arith, handed .counted)) (Given (supportOn s)))
+    let k = c .before .before .before .before .before .before .before .before .before .before .before .before .before .before .before .before .before .before .before .before .before .before .before .before .before .before .before .before in
+    let s = now (k .args .sheet) in
+    let e = k .pre .0 in
+    let on = now (k .args .on) in
+    let off = now (k .args .off) in
+    let made = c .before .before .before .before .before .before .before .before .before .before .before .before .before .before .before .before .before .before .before .plan-read .ensures in
+    let within = c .before .before .before .before .before .before .before .before .before .before .before .before .before .if1 .left in
+    let spare : total (startOf s) (supportOn s) + (k .args .x .header .bound - c .before .before .before .before .before .before .before .before .before .before .before .before .before .before .before .before .before .before .before .plan-read .result) ≡ boundOf s = omega (arith, made .1 .1, bound-is s e, within) in
+    let drawn =
+    rw (lent-words s e (now (k .args .rows)) (made .0) (k .pre .1 .0), lent-plan s e (now (k .args .sets)) (made .1 .0) (k .pre .1 .1 .0), rows-are s e, start-is s e, units-are s e, spare)
+    at (c .before .before .before .before .draw-whole .ensures) in
+    (λ i. (fullReply (made .1 .1 i) 0, ((drawn .0 ∙ sets-first (onWords s) on (omega (arith, words-length s true, many-steps s e, k .pre .1 .1 .1 .0))) i, (drawn .1 ∙ sets-first (offWords s) off (omega (arith, words-length s false, many-steps s e, k .pre .1 .1 .1 .1))) i)))
+    ∙ ap (charted (startOf s) (onWords s) (offWords s) on off) (in-bound s e (omega (arith, made .1 .1, bound-is s e, within)) (Given (supportOn s)))
 
 pub hand-out-chart-spec : {M : Type 1} → statement M
 hand-out-chart-spec =
     tie.close
     (tie.spec
-    slice-aggregate-make-plan
-    make-plan-requires
+    plan-read-requires
     refused-requires
-    returns
-    slice-aggregate-draw
-    draw-requires
     same-length
     same-length-2
+    returns
+    cast-n
+    mul-end
+    sub-draw-whole
+    part-draw-whole-start
+    part-draw-whole-end
+    sub-draw-whole-2
+    part-draw-whole-start-2
+    part-draw-whole-end-2
+    draw-whole-requires
+    same-length-3
+    same-length-4
+    same-length-5
+    same-length-6
     returns-2)

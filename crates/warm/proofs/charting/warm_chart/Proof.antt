@@ -4,10 +4,11 @@ use Prim.Native.Nat.{min}
 use native.Mathlib.Omega.{arith}
 use denote.Ref.{now}
 use lib.ListN.{length}
-use Rattle.sheet.specs.Format.{startOf}
+use Rattle.format.specs.Format.{startOf}
 use Rattle.sheet.specs.Told.{readTold}
-use Rattle.warm.specs.Entries.{onWords, offWords, charted, warmChart}
-use Rattle.warm.proofs.Plans.{plan-refused, plan-short, plan-open}
+use Rattle.promises.specs.Chart.{onWords, offWords, charted, warmChart}
+use Rattle.promises.proofs.Read.{was-opened}
+use Rattle.promises.proofs.Plans.{plan-refused, plan-short, plan-open}
 use borrow.Author.Needs.{needs}
 use Rattle.warm.proofs.charting.warm_chart.Statement.{statement}
 use Rattle.warm.proofs.charting.warm_chart.Tie as tie
@@ -56,9 +57,17 @@ returns-2 c =
     let read = sym (c .before .before .before .before .before .before .before .before .read .ensures) ∙ ap readTold (c .before .before .before .before .before .before .x2 .given .1) in
     ap (λ r. (r, (on, off))) (c .refused3 .ensures) ∙ ap (charted (startOf s) (onWords s) (offWords s) on off) (plan-short s (min (length on) (length off)) read (omega (arith, c .before .if2 .taken)))
 
+slice-aggregate-hand-out-chart : tie.Need-slice-aggregate-hand-out-chart
+slice-aggregate-hand-out-chart c = search needs
+
+slice-aggregate-hand-out-chart-2 : tie.Need-slice-aggregate-hand-out-chart-2
+slice-aggregate-hand-out-chart-2 c = search needs
+
 hand-out-chart-requires : tie.Need-hand-out-chart-requires
 hand-out-chart-requires c κs =
-    (sym (c .before .before .before .before .before .before .before .before .before .read .ensures) ∙ ap readTold (c .before .before .before .before .before .before .before .x2 .given .1), (c .before .before .before .before .if1 .left, c .before .before .if2 .left))
+    let read = sym (c .before .before .before .before .before .before .before .before .before .before .before .read .ensures) ∙ ap readTold (c .before .before .before .before .before .before .before .before .before .x2 .given .1) in
+    let few = was-opened (now (c .before .before .before .before .before .before .before .before .before .before .before .before .before .before .before .args .sheet)) read .few in
+    (read, (omega (arith, few), (omega (arith, few), (c .before .before .before .before .before .before .if1 .left, c .before .before .before .before .if2 .left))))
 
 returns-3 : tie.Need-returns-3
 unfolding warmChart charted
@@ -79,12 +88,14 @@ same-length-2 c = search needs
 returns-4 : tie.Need-returns-4
 unfolding warmChart charted
 returns-4 c =
-    let a = c .before .before .before .before .before .before .before .before .before .before .before .before .before .before .before .before .before .before .args in
+    let a = c .before .before .before .before .before .before .before .before .before .before .before .before .before .before .before .before .before .before .before .before .before .before .args in
     let s = now (a .sheet) in
     let on = now (a .on) in
     let off = now (a .off) in
-    let read = sym (c .before .before .before .before .before .before .before .before .before .before .before .before .before .before .read .ensures) ∙ ap readTold (c .before .before .before .before .before .before .before .before .before .before .before .before .x2 .given .1) in
-    c .before .before .before .before .hand-out-chart .ensures ∙ ap (charted (startOf s) (onWords s) (offWords s) on off) (plan-open s (min (length on) (length off)) read (omega (arith, c .before .before .before .before .before .before .before .before .before .if1 .left, c .before .before .before .before .before .before .before .if2 .left)))
+    let read = sym (c .before .before .before .before .before .before .before .before .before .before .before .before .before .before .before .before .before .before .read .ensures) ∙ ap readTold (c .before .before .before .before .before .before .before .before .before .before .before .before .before .before .before .before .x2 .given .1) in
+    c .before .before .before .before .before .before .hand-out-chart .ensures
+    ∙ ap (charted (startOf s) (onWords s) (offWords s) on off)
+    (plan-open s (min (length on) (length off)) read (omega (arith, c .before .before .before .before .before .before .before .before .before .before .before .before .before .if1 .left, c .before .before .before .before .before .before .before .before .before .before .before .if2 .left)))
 
 pub warm-chart-spec : {M : Type 1} → statement M
 warm-chart-spec =
@@ -100,6 +111,8 @@ warm-chart-spec =
     cast-if2
     refused-requires-3
     returns-2
+    slice-aggregate-hand-out-chart
+    slice-aggregate-hand-out-chart-2
     hand-out-chart-requires
     returns-3
     same-length

@@ -1,12 +1,14 @@
 -- `warm::planning::warm_plan` meets its contract.
 use mathlib.Core.Path.{sym, ap, _∙_}
+use native.Mathlib.Omega.{arith}
 use borrow.Author.Needs.{needs}
 use denote.Ref.{now}
 use lib.ListN.{length}
-use Rattle.sheet.specs.Format.{startOf}
+use Rattle.format.specs.Format.{startOf}
 use Rattle.sheet.specs.Told.{readTold}
-use Rattle.warm.specs.Entries.{planned, warmPlan}
-use Rattle.warm.proofs.Plans.{plan-refused, plan-short, plan-open}
+use Rattle.promises.specs.Plan.{planned, warmPlan}
+use Rattle.promises.proofs.Plans.{plan-refused, plan-short, plan-open}
+use Rattle.promises.proofs.Read.{was-opened}
 use Rattle.warm.proofs.planning.warm_plan.Statement.{statement}
 use Rattle.warm.proofs.planning.warm_plan.Tie as tie
 
@@ -37,8 +39,17 @@ returns c =
     let read = sym (c .before .before .before .before .before .before .read .ensures) ∙ ap readTold (c .before .before .before .before .x2 .given .1) in
     ap (λ r. (r, out)) (c .refused2 .ensures) ∙ ap (planned (startOf s) out) (plan-short s (length out) read (c .before .if1 .taken))
 
+slice-aggregate-hand-out : tie.Need-slice-aggregate-hand-out
+slice-aggregate-hand-out c = search needs
+
+slice-aggregate-hand-out-2 : tie.Need-slice-aggregate-hand-out-2
+slice-aggregate-hand-out-2 c = search needs
+
 hand-out-requires : tie.Need-hand-out-requires
-hand-out-requires c κs = (sym (c .before .before .before .before .before .before .read .ensures) ∙ ap readTold (c .before .before .before .before .x2 .given .1), c .before .if1 .left)
+hand-out-requires c κs =
+    let read = sym (c .before .before .before .before .before .before .before .before .read .ensures) ∙ ap readTold (c .before .before .before .before .before .before .x2 .given .1) in
+    let few = was-opened (now (c .before .before .before .before .before .before .before .before .before .before .before .args .sheet)) read .few in
+    (read, (omega (arith, few), (omega (arith, few), c .before .before .before .if1 .left)))
 
 returns-2 : tie.Need-returns-2
 unfolding warmPlan planned
@@ -55,11 +66,11 @@ same-length c = search needs
 returns-3 : tie.Need-returns-3
 unfolding warmPlan planned
 returns-3 c =
-    let a = c .before .before .before .before .before .before .before .before .before .before .before .before .args in
+    let a = c .before .before .before .before .before .before .before .before .before .before .before .before .before .before .before .before .args in
     let s = now (a .sheet) in
     let out = now (a .plan) in
-    let read = sym (c .before .before .before .before .before .before .before .before .before .read .ensures) ∙ ap readTold (c .before .before .before .before .before .before .before .x2 .given .1) in
-    c .before .before .hand-out .ensures ∙ ap (planned (startOf s) out) (plan-open s (length out) read (c .before .before .before .before .if1 .left))
+    let read = sym (c .before .before .before .before .before .before .before .before .before .before .before .before .before .read .ensures) ∙ ap readTold (c .before .before .before .before .before .before .before .before .before .before .before .x2 .given .1) in
+    c .before .before .before .before .hand-out .ensures ∙ ap (planned (startOf s) out) (plan-open s (length out) read (c .before .before .before .before .before .before .before .before .if1 .left))
 
 pub warm-plan-spec : {M : Type 1} → statement M
 warm-plan-spec =
@@ -72,6 +83,8 @@ warm-plan-spec =
     cast-if1
     refused-requires-2
     returns
+    slice-aggregate-hand-out
+    slice-aggregate-hand-out-2
     hand-out-requires
     returns-2
     same-length

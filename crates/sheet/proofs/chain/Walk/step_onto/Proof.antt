@@ -76,10 +76,10 @@ written w u m k x e = go (eqb w k) e
 -- word 0, then 1, 2 and 3, of which one is word w
 one-of-four : (w u : ℕ) (m m₁ m₂ m₃ m₄ : List ℕ) → w < 4 → m₁ ≡ marked w u m 0 → m₂ ≡ marked w u m₁ 1 → m₃ ≡ marked w u m₂ 2 → m₄ ≡ marked w u m₃ 3
     → m₄ ≡ set m w (insert (getD m w 0) u)
-one-of-four zero u m m₁ m₂ m₃ m₄ h e₁ e₂ e₃ e₄ = cc
-one-of-four (suc zero) u m m₁ m₂ m₃ m₄ h e₁ e₂ e₃ e₄ = cc
-one-of-four (suc (suc zero)) u m m₁ m₂ m₃ m₄ h e₁ e₂ e₃ e₄ = cc
-one-of-four (suc (suc (suc zero))) u m m₁ m₂ m₃ m₄ h e₁ e₂ e₃ e₄ = cc
+one-of-four zero u m m₁ m₂ m₃ m₄ h e₁ e₂ e₃ e₄ = e₄ ∙ e₃ ∙ e₂ ∙ e₁
+one-of-four (suc zero) u m m₁ m₂ m₃ m₄ h e₁ e₂ e₃ e₄ = e₄ ∙ e₃ ∙ e₂ ∙ ap (λ (l : List ℕ). set l 1 (insert (getD l 1 0) u)) e₁
+one-of-four (suc (suc zero)) u m m₁ m₂ m₃ m₄ h e₁ e₂ e₃ e₄ = e₄ ∙ e₃ ∙ ap (λ (l : List ℕ). set l 2 (insert (getD l 2 0) u)) (e₂ ∙ e₁)
+one-of-four (suc (suc (suc zero))) u m m₁ m₂ m₃ m₄ h e₁ e₂ e₃ e₄ = e₄ ∙ ap (λ (l : List ℕ). set l 3 (insert (getD l 3 0) u)) (e₃ ∙ e₂ ∙ e₁)
 one-of-four (suc (suc (suc (suc w)))) u m m₁ m₂ m₃ m₄ h e₁ e₂ e₃ e₄ = absurd (omega arith)
 
 returns : tie.Need-returns

@@ -1,0 +1,37 @@
+-- The SWITCH constraint on steps in a fixed order: which plans are feasible, and how many switches a plan makes.
+use Prim.Native.Nat.{ℕ, _+_}
+use mathlib.Core.Path.{_≡_}
+use mathlib.Core.Bool.{true}
+use mathlib.Core.List.{List, [], _∷_}
+use Rattle.plans.specs.declared.Limits.{Limits}
+use Rattle.units.specs.Limits.{Feasible, hasFeasible}
+use Rattle.units.specs.Sets.{difference, size}
+
+-- x is a feasible set of the step (fit, in docs/FORMAT.md)
+abbrev pub Allows : Limits → ℕ → Type 0
+Allows s x = Feasible (s .lower) (s .upper) (s .least) (s .greatest) x
+
+-- a plan has one set for each step, and each is one that the step allows, whatever a step is and what it allows
+abbrev pub Throughout : {S : Type 0} → (S → ℕ → Type 0) → List S → List ℕ → Type 0
+Throughout A [] [] = Unit {0}
+Throughout A [] (x ∷ xs) = ⊥
+Throughout A (s ∷ ss) [] = ⊥
+Throughout A (s ∷ ss) (x ∷ xs) = A s x × Throughout A ss xs
+
+-- each set of the plan is feasible in its step
+abbrev pub FeasiblePlan : List Limits → List ℕ → Type 0
+FeasiblePlan ss p = Throughout Allows ss p
+
+-- each step has a feasible set
+abbrev pub Satisfiable : List Limits → Type 0
+Satisfiable [] = Unit {0}
+Satisfiable (s ∷ ss) = (hasFeasible (s .lower) (s .upper) (s .least) (s .greatest) ≡ true) × Satisfiable ss
+
+-- the switches of a step (warm-ups): the units on in x and off before
+unfoldable pub switches : ℕ → ℕ → ℕ
+switches before x = size (difference x before)
+
+-- those of all steps of a plan, counted from the set before the first
+unfoldable pub total : ℕ → List ℕ → ℕ
+total before [] = 0
+total before (x ∷ xs) = switches before x + total x xs

@@ -1,0 +1,171 @@
+-- What was asked for, as theorems over the definitions in specs/ that the entries are proved to equal. Open this file first.
+--
+-- Demand 1. For any bytes and any lent list, an entry gives a full reply or one refusal of a fixed list with its place. A refusal is given
+-- exactly when its cause holds and no earlier one of the table does (docs/FORMAT.md), and it leaves the lent list as it came. The table is the
+-- list of causes that stands in the statement: `stepsRefusals`, and `readCauses` in it, are one line for each cause, in the order of the checks.
+use mathlib.Core.Path.{_≡_, refl, sym, ap, _∙_}
+use mathlib.Core.Logic.{_↔_, _⊎_, inl, inr}
+use mathlib.Core.Bool.{true, false}
+use mathlib.Core.List.{List, [], _++_, map}
+use Prim.Native.Nat.{ℕ, suc, _+_, _≤_, min}
+use native.Mathlib.Omega.{arith}
+use lib.ListN.{length}
+use Rattle.units.specs.Limits.{Feasible, hasFeasible}
+use Rattle.units.proofs.Limits.{some-feasible}
+use Rattle.plans.specs.Switch.{total}
+use Rattle.format.specs.declared.Step.{Step}
+use Rattle.format.specs.Agreement.{Agree, untagged}
+use Rattle.format.specs.Answer.{Refused, Given, unless}
+use Rattle.format.specs.Chain.{following, chainOf, linkCauses}
+use Rattle.format.specs.Format.{boundOf, startOf}
+use Rattle.format.specs.Reading.{stepsOf, readCauses, campaignOf}
+use Rattle.format.proofs.Agreements.{same-causes, same-units, same-bound, same-start, same-untagged}
+use Rattle.format.proofs.Answers.{numbered-append, Numbered}
+use Rattle.format.proofs.Chains.{chain-is-long-enough}
+use Rattle.format.proofs.Readings.{numbered-read}
+use Rattle.promises.specs.Chart.{onWords, offWords, charted, warmChart}
+use Rattle.promises.specs.Common.{placesCauses, written, refusedReply, fullReply}
+use Rattle.promises.specs.Plan.{fewestOn, supportOn, boundCauses, planRefusals, planned, warmPlan}
+use Rattle.promises.specs.Statements.{Exact, Alike, Passes, Meets, FewestAndExact}
+use Rattle.promises.specs.Steps.{stepsRefusals, stepsReply, stepsWritten, warmSteps}
+use Rattle.promises.specs.Verdict.{wordsCauses, verdictRefusals, accepts, judged, warmVerdict}
+use Rattle.promises.proofs.Charts.{words-length, words-cells, no-others}
+use Rattle.promises.proofs.Exactly.{exact}
+use Rattle.promises.proofs.Likeness.{alike-plan, alike-chart, alike-verdict}
+use Rattle.promises.proofs.Plans.{plan-fewest, plan-length-on, over-bound, in-bound, plan-open}
+use Rattle.promises.proofs.Read.{passed}
+use Rattle.promises.proofs.Steps.{alike-answer, alike-reply, alike-written}
+use Rattle.promises.proofs.Verdicts.{verdict-given, accepts-exactly, turned-down}
+
+-- ---- demand 1
+
+-- refusals 1 to 8, and none other
+abbrev pub StepsNumber : ℕ → Type 0
+StepsNumber n = (1 ≤ n) × (n ≤ 8)
+
+pub demand-1-steps : (s : List ℕ) (out : List Step)
+    → Exact (stepsRefusals s (length out)) StepsNumber (warmSteps s out) (λ n p. (stepsReply (Refused n p), out))
+    (stepsReply (Given (campaignOf s)), written (stepsOf s) out)
+unfolding warmSteps stepsWritten campaignOf stepsRefusals Numbered
+demand-1-steps s out =
+    exact (stepsRefusals s (length out)) StepsNumber
+    (numbered-append StepsNumber (readCauses s) (placesCauses s (length out)) (numbered-read StepsNumber (λ n l h. (l, omega arith)) s)
+    ((omega arith, omega arith), tt)) (campaignOf s) (λ a. (stepsReply a, stepsWritten a out))
+
+-- refusals 1 to 9
+abbrev pub PlanNumber : ℕ → Type 0
+PlanNumber n = (1 ≤ n) × (n ≤ 9)
+
+plan-numbers : (s : List ℕ) (places : ℕ) → Numbered PlanNumber (planRefusals s places)
+unfolding planRefusals Numbered
+plan-numbers s places =
+    numbered-append PlanNumber (readCauses s ++ placesCauses s places) (boundCauses s)
+    (numbered-append PlanNumber (readCauses s) (placesCauses s places) (numbered-read PlanNumber (λ n l h. (l, omega arith)) s) ((omega arith, omega arith), tt))
+    ((omega arith, omega arith), tt)
+
+pub demand-1-plan : (s out : List ℕ)
+    → Exact (planRefusals s (length out)) PlanNumber (warmPlan s out) (λ n p. (refusedReply n p, out))
+    (fullReply (total (startOf s) (supportOn s)) 0, written (supportOn s) out)
+unfolding warmPlan planned
+demand-1-plan s out = exact (planRefusals s (length out)) PlanNumber (plan-numbers s (length out)) (supportOn s) (planned (startOf s) out)
+
+-- the chart has the plan's refusals, for the shorter of its outputs
+pub demand-1-chart : (s on off : List ℕ)
+    → Exact (planRefusals s (min (length on) (length off))) PlanNumber (warmChart s on off) (λ n p. (refusedReply n p, (on, off)))
+    (fullReply (total (startOf s) (supportOn s)) 0, (written (onWords s) on, written (offWords s) off))
+unfolding warmChart charted
+demand-1-chart s on off =
+    let places = min (length on) (length off) in
+    exact (planRefusals s places) PlanNumber (plan-numbers s places) (supportOn s) (charted (startOf s) (onWords s) (offWords s) on off)
+
+-- refusals 1 to 7 and 10
+abbrev pub VerdictNumber : ℕ → Type 0
+VerdictNumber n = ((1 ≤ n) × (n ≤ 7)) ⊎ (n ≡ 10)
+
+pub demand-1-verdict : (s plan : List ℕ)
+    → Exact (verdictRefusals s (length plan)) VerdictNumber (warmVerdict s plan) refusedReply (fullReply (total (startOf s) plan) (accepts s plan))
+unfolding warmVerdict judged verdictRefusals Numbered
+demand-1-verdict s plan =
+    exact (verdictRefusals s (length plan)) VerdictNumber
+    (numbered-append VerdictNumber (readCauses s) (wordsCauses s (length plan)) (numbered-read VerdictNumber (λ n l h. inl (l, h)) s) (inr refl, tt))
+    (fullReply (total (startOf s) plan) (accepts s plan)) judged
+
+-- ---- demand 2: a plan handed in beside a sheet that passes the checks
+
+-- With one set for each step it is accepted if it meets the sheet, and turned down if not. Its total is given either way.
+pub demand-2-verdict : (s plan : List ℕ) → Passes s → length plan ≡ length (stepsOf s)
+    → (warmVerdict s plan ≡ fullReply (total (startOf s) plan) (accepts s plan)) × ((Meets s plan → accepts s plan ≡ 1) × ((Meets s plan → ⊥) → accepts s plan ≡ 0))
+unfolding warmVerdict judged campaignOf
+demand-2-verdict s plan ok long =
+    (sym (ap judged (verdict-given s plan (passed s ok) long)), (accepts-exactly s plan .1, turned-down s plan))
+
+-- The plan that is handed out is the one that FindSupport gives, and the verdict accepts it.
+pub demand-2-plan : (s out : List ℕ) → Passes s → length (stepsOf s) ≤ length out → fewestOn s ≤ boundOf s
+    → (warmPlan s out ≡ (fullReply (total (startOf s) (supportOn s)) 0, written (supportOn s) out)) × (warmVerdict s (supportOn s) ≡ fullReply (total (startOf s) (supportOn s)) 1)
+unfolding warmPlan planned campaignOf
+demand-2-plan s out ok room bound =
+    let e = passed s ok in
+    let best = plan-fewest s e in (
+      ap (planned (startOf s) out) (sym (in-bound s e (omega (arith, best .1 .0)) (Given (supportOn s)) ∙ plan-open s (length out) e room)),
+      demand-2-verdict s (supportOn s) ok (plan-length-on s) .0 ∙ ap (fullReply (total (startOf s) (supportOn s))) (accepts-exactly s (supportOn s) .1 (best .0, omega (arith, best .1 .0))),
+    )
+
+-- ---- demand 3: any sheet that passes the checks, with outputs that have a place for every step
+
+pub demand-3 : (s plan on off : List ℕ) → Passes s
+    → length (stepsOf s) ≤ length plan → length (stepsOf s) ≤ length on → length (stepsOf s) ≤ length off
+    → FewestAndExact s plan on off (total (startOf s) (supportOn s))
+unfolding warmPlan planned warmChart charted campaignOf onWords offWords
+demand-3 s plan on off ok plan-room on-room off-room =
+    let e = passed s ok in
+    let best = plan-fewest s e in
+    let drawn = charted (startOf s) (onWords s) (offWords s) on off in
+    record {
+      feasible = best .0;
+      fewest = λ q f. omega (arith, best .1 .0, best .1 .1 q f);
+      planOver = λ h. ap (planned (startOf s) plan) (sym (over-bound s e h ∙ plan-open s (length plan) e plan-room));
+      chartOver = λ h. ap drawn (sym (over-bound s e h ∙ plan-open s (min (length on) (length off)) e (omega arith)));
+      planWithin = λ h. ap (planned (startOf s) plan) (sym (in-bound s e h (Given (supportOn s)) ∙ plan-open s (length plan) e plan-room));
+      chartWithin = λ h. ap drawn (sym (in-bound s e h (Given (supportOn s)) ∙ plan-open s (min (length on) (length off)) e (omega arith)));
+      onLength = words-length s true;
+      offLength = words-length s false;
+      onCells = λ i u l. words-cells s e i u l true;
+      offCells = λ i u l. words-cells s e i u l false;
+      noOthers = λ i u l k. (no-others s e i u l true k, no-others s e i u l false k);
+    }
+
+-- what row 7 of the table tests: it holds of a step exactly if no set is feasible there
+pub a-feasible-set : (x : Step) → hasFeasible (x .lower) (x .upper) (x .least) (x .greatest) ≡ true
+    ↔ ((set : ℕ) × Feasible (x .lower) (x .upper) (x .least) (x .greatest) set)
+a-feasible-set x = some-feasible (x .lower) (x .upper) (x .least) (x .greatest)
+
+-- the walk along the chain never runs out of links to look at: looking at more gives the same refusal or the same chain
+pub the-walk-ends : (s : List ℕ) (r more : ℕ)
+    → unless (linkCauses r [] 0 (following (suc r + more) s 0)) (Given (following (suc r + more) s 0)) ≡ unless (linkCauses r [] 0 (chainOf s r)) (Given (chainOf s r))
+the-walk-ends s r more = chain-is-long-enough s r more
+
+-- ---- sheets that differ only in job tags and in records off the chain
+
+-- They are alike in all that counts, and whatever is made of that is the same.
+pub agreeing-sheets : (s t : List ℕ) → Agree s t → Alike s t
+unfolding campaignOf
+agreeing-sheets s t g =
+    record { causes = same-causes s t g; units = same-units s t g; bound = same-bound s t g; start = same-start s t g; steps = same-untagged s t g }
+
+-- so `warm_steps` gives the same reply, and the same list but for tags
+pub agreeing-steps : (s t : List ℕ) (out : List Step) → Agree s t
+    → (warmSteps s out .0 ≡ warmSteps t out .0) × (map untagged (warmSteps s out .1) ≡ map untagged (warmSteps t out .1))
+unfolding warmSteps
+agreeing-steps s t out g =
+    let a = agreeing-sheets s t g in
+    (alike-answer s t (length out) a stepsReply (alike-reply s t a), alike-answer s t (length out) a (λ x. map untagged (stepsWritten x out)) (alike-written s t out a))
+
+-- and the others give the same in all
+pub agreeing-plan : (s t out : List ℕ) → Agree s t → warmPlan s out ≡ warmPlan t out
+agreeing-plan s t out g = alike-plan s t (agreeing-sheets s t g) out
+
+pub agreeing-chart : (s t on off : List ℕ) → Agree s t → warmChart s on off ≡ warmChart t on off
+agreeing-chart s t on off g = alike-chart s t (agreeing-sheets s t g) on off
+
+pub agreeing-verdict : (s t plan : List ℕ) → Agree s t → warmVerdict s plan ≡ warmVerdict t plan
+agreeing-verdict s t plan g = alike-verdict s t (agreeing-sheets s t g) plan

@@ -1,0 +1,17 @@
+-- An entry whose reply and memory are a function of its answer answers exactly: demand 1 for each entry is one application.
+use mathlib.Core.Path.{sym, ap}
+use mathlib.Core.List.{List}
+use Prim.Native.Nat.{ℕ}
+use Rattle.format.specs.Answer.{Answer, Refused, Given, Cause, unless}
+use Rattle.format.proofs.Answers.{first-decided, first-refuses, none-holds, numbered-first, Numbered}
+use Rattle.promises.specs.Statements.{Exact}
+
+pub exact : {A R : Type 0} (cs : List Cause) (Number : ℕ → Type 0) → Numbered Number cs → (v : A) (made : Answer A → R)
+    → Exact cs Number (made (unless cs (Given v))) (λ n p. made (Refused n p)) (made (Given v))
+exact cs Number numbers v made =
+    record {
+      decided = first-decided cs;
+      numbered = λ n p f. numbered-first Number f numbers;
+      refusals = λ n p f. ap made (sym (first-refuses f (Given v)));
+      replies = λ none. ap made (none-holds cs (Given v) none);
+    }

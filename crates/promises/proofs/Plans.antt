@@ -1,0 +1,59 @@
+-- Laws on the answer of `warm_plan`: what it is by what the reader says, by the output's places and by the bound. The total that is compared with the
+-- bound is FindSupport's, which no feasible plan undercuts, so that it is the fewest.
+use mathlib.Core.Path.{_≡_, sym, ap, _∙_}
+use mathlib.Core.List.{List, _++_}
+use Prim.Native.Nat.{ℕ, _≤_, _<_}
+use native.Mathlib.Omega.{arith}
+use lib.ListN.{length, length-map}
+use borrow.Author.Tests.{lt-ltb, le-ltb}
+use Rattle.plans.specs.Switch.{FeasiblePlan, total}
+use Rattle.plans.proofs.Fewest.{support-fewest, support-length}
+use Rattle.format.specs.declared.Summary.{Summary}
+use Rattle.format.specs.Answer.{Answer, Refused, Given, unless}
+use Rattle.format.specs.Format.{limitsOf, unitsOf, boundOf, startOf}
+use Rattle.format.specs.Reading.{stepsOf, readCauses}
+use Rattle.format.specs.Stages.{summaryOf, summaryRead}
+use Rattle.format.proofs.Answers.{refused-by, passed-by, none-left, unless-append, refused-whatever}
+use Rattle.promises.specs.Common.{limitsOn, placesCauses}
+use Rattle.promises.specs.Plan.{fewestOn, supportOn, boundCauses, planRefusals, planAnswer}
+use Rattle.promises.proofs.Read.{satisfiable, uppers-below, was-read, short-output, long-output}
+
+-- ---- the plan
+
+pub plan-length-on : (s : List ℕ) → length (supportOn s) ≡ length (stepsOf s)
+unfolding supportOn
+plan-length-on s = support-length (startOf s) (limitsOn s) ∙ length-map (stepsOf s) limitsOf
+
+module _ (s : List ℕ) {x : Summary} (e : summaryRead s ≡ Given x) where
+  -- the plan handed out is feasible, has the fewest switches, and no feasible plan has fewer
+  pub plan-fewest : FeasiblePlan (limitsOn s) (supportOn s)
+      × ((total (startOf s) (supportOn s) ≡ fewestOn s) × ((q : List ℕ) → FeasiblePlan (limitsOn s) q → fewestOn s ≤ total (startOf s) q))
+  unfolding supportOn fewestOn
+  plan-fewest = support-fewest (unitsOf s) (startOf s) (limitsOn s) (uppers-below s e) (satisfiable s e)
+
+  pub over-bound : boundOf s < total (startOf s) (supportOn s)
+      → Refused 9 (total (startOf s) (supportOn s)) ≡ unless (boundCauses s) (Given (supportOn s))
+  over-bound h =
+      ap (Refused 9) (plan-fewest .1 .0) ∙ refused-by _ _ _ (lt-ltb (boundOf s) (fewestOn s) (omega (arith, plan-fewest .1 .0)))
+
+  pub in-bound : total (startOf s) (supportOn s) ≤ boundOf s → {A : Type 0} (a : Answer A) → a ≡ unless (boundCauses s) a
+  in-bound h a = passed-by _ _ _ (le-ltb (boundOf s) (fewestOn s) (omega (arith, plan-fewest .1 .0))) (none-left a)
+
+-- ---- the answer, by its stages
+
+module _ (s : List ℕ) (places : ℕ) where
+  plan-staged : planAnswer s places ≡ unless (readCauses s) (unless (placesCauses s places) (unless (boundCauses s) (Given (supportOn s))))
+  unfolding planRefusals
+  plan-staged =
+      unless-append (readCauses s ++ placesCauses s places) (boundCauses s) (Given (supportOn s))
+      ∙ unless-append (readCauses s) (placesCauses s places) (unless (boundCauses s) (Given (supportOn s)))
+
+  pub plan-refused : {n p : ℕ} → summaryRead s ≡ Refused n p → Refused n p ≡ planAnswer s places
+  plan-refused e = refused-whatever (readCauses s) (summaryOf s) (sym e) _ ∙ sym plan-staged
+
+  module _ {x : Summary} (e : summaryRead s ≡ Given x) where
+    pub plan-short : places < x .steps → Refused 8 (x .steps) ≡ planAnswer s places
+    plan-short h = short-output s e places h _ ∙ was-read s e _ ∙ sym plan-staged
+
+    pub plan-open : x .steps ≤ places → unless (boundCauses s) (Given (supportOn s)) ≡ planAnswer s places
+    plan-open h = long-output s e places h _ ∙ was-read s e _ ∙ sym plan-staged

@@ -1,0 +1,9 @@
+-- What each entry replies and leaves in the lent memory: `Common` has what they share, then a file for each, `Steps`, `Plan`, `Chart` and `Verdict`.
+-- `Statements` has how the demands are stated, and `Examples` the worked examples.
+pub mod Chart
+pub mod Common
+pub mod Examples
+pub mod Plan
+pub mod Statements
+pub mod Steps
+pub mod Verdict

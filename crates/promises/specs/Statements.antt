@@ -1,0 +1,63 @@
+-- How the demands are stated: see proofs/Demands.antt for the theorems.
+use Prim.Native.Nat.{ℕ, _≤_, _<_}
+use mathlib.Core.Path.{_≡_}
+use mathlib.Core.Logic.{_↔_, _⊎_}
+use mathlib.Core.List.{List, map}
+use lib.ListN.{length, getD}
+use Rattle.units.specs.Sets.{bit}
+use Rattle.format.specs.Agreement.{untagged}
+use Rattle.format.specs.Answer.{Cause, First}
+use Rattle.format.specs.Format.{unitsOf, boundOf, startOf}
+use Rattle.format.specs.Reading.{stepsOf, readCauses, campaignOf}
+use Rattle.plans.specs.Switch.{FeasiblePlan, total}
+use Rattle.promises.specs.Common.{limitsOn, written, refusedReply, fullReply}
+use Rattle.promises.specs.Plan.{supportOn, warmPlan}
+use Rattle.promises.specs.Chart.{onWords, offWords, warmChart}
+
+-- An entry on one input answers exactly: `result` is its reply with all lent memory afterwards. If the first cause of the list that holds has
+-- number n and place p, then n is one of the entry's numbers and the result is `refused n p`; if none holds, the result is `given`.
+-- One of the two is so.
+pub record Exact {R : Type 0} (causes : List Cause) (Number : ℕ → Type 0) (result : R) (refused : ℕ → ℕ → R) (given : R) : Type 0 where
+  pub decided : ((n : ℕ) × ((p : ℕ) × First causes n p)) ⊎ ((n p : ℕ) → First causes n p → ⊥)
+  pub numbered : (n p : ℕ) → First causes n p → Number n
+  pub refusals : (n p : ℕ) → First causes n p → result ≡ refused n p
+  pub replies : ((n p : ℕ) → First causes n p → ⊥) → result ≡ given
+
+-- Two sheets have the same causes of refusal, units, bound and start set, and the same steps but for their tags.
+pub record Alike (s t : List ℕ) : Type 0 where
+  pub causes : readCauses s ≡ readCauses t
+  pub units : campaignOf s .units ≡ campaignOf t .units
+  pub bound : campaignOf s .bound ≡ campaignOf t .bound
+  pub start : campaignOf s .start ≡ campaignOf t .start
+  pub steps : map untagged (stepsOf s) ≡ map untagged (stepsOf t)
+
+-- no cause of refusals 1 to 7 holds: the sheet passes the checks
+abbrev pub Passes : List ℕ → Type 0
+Passes s = (n p : ℕ) → First (readCauses s) n p → ⊥
+
+-- a plan meets the sheet: it is feasible, and its switches, counted from the start set, are within the bound
+abbrev pub Meets : List ℕ → List ℕ → Type 0
+Meets s plan = FeasiblePlan (limitsOn s) plan × (total (startOf s) plan ≤ boundOf s)
+
+-- some plan that meets the sheet has unit u on in step i (v = 1), or off (v = 0); steps count from 0 here
+abbrev pub SomePlanHas : List ℕ → ℕ → ℕ → ℕ → Type 0
+SomePlanHas s i u v = (plan : List ℕ) × (Meets s plan × (bit (getD plan i 0) u ≡ v))
+
+-- Demand 3 on one sheet and lent outputs, where `best` is the total of FindSupport's plan.
+pub record FewestAndExact (s plan on off : List ℕ) (best : ℕ) : Type 0 where
+  -- that plan meets all set and number limits, and every other plan that meets them has at least as many switches
+  pub feasible : FeasiblePlan (limitsOn s) (supportOn s)
+  pub fewest : (other : List ℕ) → FeasiblePlan (limitsOn s) other → best ≤ total (startOf s) other
+  -- plan and chart refuse the sheet for its bound if that number is above it, and the place is that number
+  pub planOver : boundOf s < best → warmPlan s plan ≡ (refusedReply 9 best, plan)
+  pub chartOver : boundOf s < best → warmChart s on off ≡ (refusedReply 9 best, (on, off))
+  -- else it is the total of both, and the plan written out is FindSupport's
+  pub planWithin : best ≤ boundOf s → warmPlan s plan ≡ (fullReply best 0, written (supportOn s) plan)
+  pub chartWithin : best ≤ boundOf s → warmChart s on off ≡ (fullReply best 0, (written (onWords s) on, written (offWords s) off))
+  -- the chart has a word for each step in which it shows a unit of the sheet as able to be on, or off, exactly if some plan that meets the sheet
+  -- has it so there; and no other unit
+  pub onLength : length (onWords s) ≡ length (stepsOf s)
+  pub offLength : length (offWords s) ≡ length (stepsOf s)
+  pub onCells : (i u : ℕ) → i < length (stepsOf s) → u < unitsOf s → (bit (getD (onWords s) i 0) u ≡ 1) ↔ SomePlanHas s i u 1
+  pub offCells : (i u : ℕ) → i < length (stepsOf s) → u < unitsOf s → (bit (getD (offWords s) i 0) u ≡ 1) ↔ SomePlanHas s i u 0
+  pub noOthers : (i u : ℕ) → i < length (stepsOf s) → unitsOf s ≤ u → (bit (getD (onWords s) i 0) u ≡ 0) × (bit (getD (offWords s) i 0) u ≡ 0)

@@ -1,0 +1,23 @@
+// What is promised to callers, with no code: for each entry its reply and what it leaves in the lent memory, for any input (specs/), and the theorems
+// that were asked for (proofs/Demands.antt: open it first). The structs are the replies.
+
+// What `warm_steps` replies. Where refusal is not 0, it is a refusal with its place, and the other numbers are 0.
+#[repr(C)]
+pub struct StepsReply {
+    pub refusal: u32,
+    pub place: u32,
+    pub units: u32,
+    pub steps: u32,
+    pub bound: u32,
+    pub reserved: u32,
+    pub start: u64,
+}
+
+// What the other entries reply. Where refusal is not 0, it is a refusal with its place, and the other numbers are 0.
+#[repr(C)]
+pub struct Reply {
+    pub refusal: u32,
+    pub place: u32,
+    pub total: u32,
+    pub accepted: u32,
+}

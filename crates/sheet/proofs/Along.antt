@@ -1,0 +1,25 @@
+-- A loop along the chain: after i of n records it is at record `at`, and those after it lie within the sheet.
+use mathlib.Core.Path.{_≡_, subst}
+use mathlib.Core.List.{List}
+use Prim.Native.Nat.{ℕ, suc, _+_, _-_, _≤_, _<_}
+use native.Mathlib.Omega.{arith}
+use lib.ListN.{length}
+use Rattle.format.specs.Chain.{Inside}
+use Rattle.format.specs.Format.{nextOf, recordOffset}
+
+pub record Along (s : List ℕ) (n at i : ℕ) : Type 0 where
+  pub within : i ≤ n
+  pub inside : Inside s at (n - i)
+
+pub along-begun : (s : List ℕ) (n : ℕ) → Inside s 0 n → Along s n 0 0
+along-begun s n h = record { within = omega arith; inside = subst (Inside s 0) (omega arith) h }
+
+module _ {s : List ℕ} {n at i : ℕ} (g : Along s n at i) (more : i < n) where
+  pub inside-now : (recordOffset (at + 1) ≤ length s) × ((recordOffset (nextOf s at + 1) ≤ length s) × Inside s (nextOf s at) (n - (i + 1)))
+  unfolding Inside
+  inside-now =
+      let left : n - i ≡ suc (n - (i + 1)) = omega arith in
+      subst (Inside s at) left (g .inside)
+
+  pub along-on : Along s n (nextOf s at) (i + 1)
+  along-on = record { within = omega arith; inside = inside-now .1 .1 }
