@@ -13,7 +13,7 @@ use trials::tally::Tally;
 ghost use Prim.Native.Nat.{_≤_, _<_};
 ghost use lib.ListN.{length};
 
-type Text = [u8; 6212];
+type Text = [u8; listing::LONGEST];
 
 // Whether the listing of the first bytes is that text.
 fn has_listing(bytes: &Space, length: usize, expected: &[u8]) -> bool
