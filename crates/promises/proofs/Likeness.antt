@@ -6,18 +6,19 @@ use Prim.Native.Nat.{ℕ, min}
 use lib.Dec.{ltb, leb, eqb}
 use lib.ListN.{length}
 use Rattle.format.specs.Agreement.{untagged}
-use Rattle.format.specs.Answer.{Given, cause, unless}
+use Rattle.format.specs.Answer.{Answer, Given, cause, unless}
 use Rattle.format.specs.Format.{startOf}
-use Rattle.format.specs.Reading.{stepsOf, campaignOf}
+use Rattle.format.specs.Reading.{stepsOf, readCauses, campaignOf}
 use Rattle.plans.specs.Plans.{allows, isFeasible, fewest, canBeOn, canBeOff}
 use Rattle.plans.specs.Support.{findSupport}
 use Rattle.plans.specs.Switch.{total}
 use Rattle.format.specs.Format.{limitsOf}
-use Rattle.promises.specs.Common.{limitsOn, fullReply}
-use Rattle.promises.specs.Plan.{fewestOn, supportOn, planRefusals, planAnswer, planned, warmPlan}
+use Rattle.promises.specs.Common.{limitsOn, placesCauses, fullReply}
+use Rattle.promises.specs.Plan.{fewestOn, supportOn, boundCauses, planAnswer, planned, warmPlan}
 use Rattle.promises.specs.Chart.{onWords, offWords, charted, warmChart}
 use Rattle.promises.specs.Verdict.{verdictRefusals, accepts, judged, warmVerdict}
 use Rattle.promises.specs.Statements.{Alike}
+use Rattle.promises.proofs.Plans.{plan-staged}
 use Rattle.promises.proofs.Steps.{alike-many}
 
 module _ (s t : List ℕ) (a : Alike s t) where
@@ -45,11 +46,17 @@ module _ (s t : List ℕ) (a : Alike s t) where
   alike-off = λ i. canBeOff allows (a .units i) (a .bound i) (a .start i) (alike-limits i)
 
   alike-plan-answer : (places : ℕ) → planAnswer s places ≡ planAnswer t places
-  unfolding planRefusals campaignOf
-  alike-plan-answer places =
-      λ i. unless
-      (a .causes i ++ (cause (ltb places (alike-many s t a i)) 8 (alike-many s t a i) ∷ []) ++ (cause (ltb (a .bound i) (alike-fewest i)) 9 (alike-fewest i) ∷ []))
-      (Given (alike-support i))
+  unfolding campaignOf
+  alike-plan-answer places = plan-staged s places ∙ alike ∙ sym (plan-staged t places)
+    where
+      staged : List ℕ → Answer (List ℕ)
+      staged s = unless (readCauses s) (unless (placesCauses s places) (unless (boundCauses s) (Given (supportOn s))))
+
+      alike : staged s ≡ staged t
+      alike =
+          λ i. unless (a .causes i)
+          (unless (cause (ltb places (alike-many s t a i)) 8 (alike-many s t a i) ∷ [])
+          (unless (cause (ltb (a .bound i) (alike-fewest i)) 9 (alike-fewest i) ∷ []) (Given (alike-support i))))
 
   pub alike-plan : (out : List ℕ) → warmPlan s out ≡ warmPlan t out
   unfolding warmPlan

@@ -42,7 +42,7 @@ module _ (s : List ℕ) {x : Summary} (e : summaryRead s ≡ Given x) where
 -- ---- the answer, by its stages
 
 module _ (s : List ℕ) (places : ℕ) where
-  plan-staged : planAnswer s places ≡ unless (readCauses s) (unless (placesCauses s places) (unless (boundCauses s) (Given (supportOn s))))
+  pub plan-staged : planAnswer s places ≡ unless (readCauses s) (unless (placesCauses s places) (unless (boundCauses s) (Given (supportOn s))))
   unfolding planRefusals
   plan-staged =
       unless-append (readCauses s ++ placesCauses s places) (boundCauses s) (Given (supportOn s))
