@@ -10,34 +10,34 @@ use Rattle.tables.specs.Tables.{rowCount, gathered, passing, free, held, more, 
 use Rattle.tables.proofs.Words.{bit-all, contains-in, passing-same}
 use Rattle.backward.proofs.Finding.{passing-loose}
 
--- a unit is loose if the step allows one less and there is a switch to spare or it is spared
-loose-is : (tight lessOf : Bool) (spared b : ℕ) → b < 64
-    → contains (cond lessOf (cond tight spared all) 0) b ≡ (lessOf && (not tight || contains spared b))
-loose-is true true spared b h = refl
-loose-is false true spared b h = contains-in all b (bit-all b h)
-loose-is tight false spared b h = contains-empty b
+-- a unit is loose if the step allows one less and there is a switch to spare or it is dispensable
+loose-is : (tight lessOf : Bool) (dispensable b : ℕ) → b < 64
+    → contains (cond lessOf (cond tight dispensable all) 0) b ≡ (lessOf && (not tight || contains dispensable b))
+loose-is true true dispensable b h = refl
+loose-is false true dispensable b h = contains-in all b (bit-all b h)
+loose-is tight false dispensable b h = contains-empty b
 
 module _ (tight : Bool) (s : Limits) (t : ℕ) (turns : ℕ → ℕ) (w : Later) {many fr : ℕ} (count : many ≡ size t) (rest : fr ≡ difference (s .upper) t) where
   -- the units that can be on
-  pub on-read : {spare joining joined : ℕ} → spare ≡ cond tight (w .saves) all
-      → joining ≡ cond (ltb many (s .greatest)) spare 0 → joined ≡ gathered rowCount (difference t (s .lower)) (inPlace tight turns w)
+  pub on-read : {able joining joined : ℕ} → able ≡ cond tight (w .saves) all
+      → joining ≡ cond (ltb many (s .greatest)) able 0 → joined ≡ gathered rowCount (difference t (s .lower)) (inPlace tight turns w)
       → union t (intersection fr (union joining joined)) ≡ onWord tight s t turns w
   unfolding onWord free held more
   on-read a b c = rw (b, a, c, count, rest)
 
   -- the units that can be off
-  pub off-read : (us : ℕ) {spare loose passed : ℕ} → spare ≡ cond tight (w .spared) all → loose ≡ cond (ltb (s .least) many) spare 0
+  pub off-read : (us : ℕ) {able loose passed : ℕ} → able ≡ cond tight (w .dispensable) all → loose ≡ cond (ltb (s .least) many) able 0
       → (hd : ℕ) → hd < 2 ^ 64 → hd ≡ difference t (s .lower) → passed ≡ passing rowCount hd (λ b. meets (inPlace tight turns w b) fr)
       → union (difference us t) (union (intersection hd loose) passed) ≡ offWord tight us s t turns w
   unfolding offWord free held less
-  off-read us {spare} {loose} {passed} a b hd word here c =
+  off-read us {able} {loose} {passed} a b hd word here c =
       ap (union (difference us t))
       (ap (union (intersection hd loose)) c
       ∙ passing-loose hd loose (λ u. meets (inPlace tight turns w u) fr) word
       ∙ ap (λ (x : ℕ). passing rowCount x (λ u. contains loose u || meets (inPlace tight turns w u) fr)) here
       ∙ passing-same 64 (difference t (s .lower)) (λ u. contains loose u || meets (inPlace tight turns w u) fr)
-      (λ u. (ltb (s .least) (size t) && (not tight || contains (w .spared) u)) || meets (inPlace tight turns w u) (difference (s .upper) t))
+      (λ u. (ltb (s .least) (size t) && (not tight || contains (w .dispensable) u)) || meets (inPlace tight turns w u) (difference (s .upper) t))
       (λ u h e. ap₂ _||_ (left u h) (ap (meets (inPlace tight turns w u)) rest)))
     where
-      left : (u : ℕ) → u < 64 → contains loose u ≡ (ltb (s .least) (size t) && (not tight || contains (w .spared) u))
-      left u h = rw (b, a, count) (loose-is tight (ltb (s .least) (size t)) (w .spared) u h)
+      left : (u : ℕ) → u < 64 → contains loose u ≡ (ltb (s .least) (size t) && (not tight || contains (w .dispensable) u))
+      left u h = rw (b, a, count) (loose-is tight (ltb (s .least) (size t)) (w .dispensable) u h)

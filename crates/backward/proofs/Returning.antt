@@ -10,7 +10,7 @@ use lib.Seq.{getD-set-same, getD-set-other}
 use Rattle.units.specs.Sets.{bit, union, intersection, difference, contains, remove, Lowest, meets}
 use Rattle.units.proofs.Sets.{bit-empty, bit-le, bit-remove, remove-subset}
 use Rattle.plans.specs.declared.Limits.{Limits}
-use Rattle.tables.specs.Tables.{rowCount, gathered, passing, free, held, new, more, less, Later, savesBefore, sparedBefore, evenBefore, gainBefore, evenRow, gainRow}
+use Rattle.tables.specs.Tables.{rowCount, gathered, passing, free, held, new, more, less, Later, savesBefore, dispensableBefore, evenBefore, gainBefore, evenRow, gainRow}
 use Rattle.tables.proofs.Gathering.{member-below, none-left, one-done, equal-units}
 use Rattle.tables.proofs.Words.{bit-gathered, contains-out, in-union, in-difference, in-lacking, passing-same}
 use Rattle.backward.specs.declared.rows.Back.{Back}
@@ -109,20 +109,20 @@ module _ (s : Limits) (p t : ℕ) (w : Later) where
       (ap (λ (x : ℕ). union (new p t) (intersection (free s t) (union (cond (more s t) (w .saves) 0) x)))
       (left-gathered (held s t) p (w .even) (w .gain)))
 
-  -- the word of the units that are spared
-  pub spared-back : {hd loose owned fs : ℕ} → hd < 2 ^ 64 → hd ≡ held s t → loose ≡ cond (less s t) (w .spared) 0 → owned ≡ intersection (free s t) p
+  -- the word of the units that are dispensable
+  pub dispensable-back : {hd loose owned fs : ℕ} → hd < 2 ^ 64 → hd ≡ held s t → loose ≡ cond (less s t) (w .dispensable) 0 → owned ≡ intersection (free s t) p
       → fs ≡ free s t
-      → union (difference p t) (union (intersection hd loose) (passing rowCount hd (λ b. meets (w .even b) owned || meets (w .gain b) fs))) ≡ sparedBefore s p t w
-  unfolding sparedBefore
-  spared-back {hd} {loose} {owned} {fs} word h l o f =
+      → union (difference p t) (union (intersection hd loose) (passing rowCount hd (λ b. meets (w .even b) owned || meets (w .gain b) fs))) ≡ dispensableBefore s p t w
+  unfolding dispensableBefore
+  dispensable-back {hd} {loose} {owned} {fs} word h l o f =
       ap (union (difference p t)) (passing-loose hd loose (λ b. meets (w .even b) owned || meets (w .gain b) fs) word)
       ∙ rw (h, l, o, f)
-      (ap (union (difference p t)) (passing-same 64 (held s t) _ _ (λ b k i. rw (contains-given (less s t) (w .spared) b))))
+      (ap (union (difference p t)) (passing-same 64 (held s t) _ _ (λ b k i. rw (contains-given (less s t) (w .dispensable) b))))
 
 -- what the rows of a step have in common, as the tables have it
 pub record Common (s : Limits) (p t : ℕ) (w : Later) (back : Back) : Type 0 where
   pub saves : back .saves ≡ savesBefore s p t w
-  pub spared : back .spared ≡ sparedBefore s p t w
+  pub dispensable : back .dispensable ≡ dispensableBefore s p t w
   pub held : back .held ≡ held s t
   pub on : back .on ≡ t
   pub new : back .new ≡ new p t
@@ -130,10 +130,10 @@ pub record Common (s : Limits) (p t : ℕ) (w : Later) (back : Back) : Type 0 wh
 
 -- then the rows are the tables' rows
 module _ {s : Limits} {p t : ℕ} {w : Later} {back : Back} (c : Common s p t w back) (b : ℕ) {row : ℕ} where
-  pub even-back : row ≡ w .even b → evenRow (back .saves) (back .spared) (back .held) (back .free) b row ≡ evenBefore s p t w b
+  pub even-back : row ≡ w .even b → evenRow (back .saves) (back .dispensable) (back .held) (back .free) b row ≡ evenBefore s p t w b
   unfolding evenBefore
-  even-back e = rw (e, c .saves, c .spared, c .held, c .free)
+  even-back e = rw (e, c .saves, c .dispensable, c .held, c .free)
 
-  pub gain-back : row ≡ w .gain b → gainRow (back .saves) (back .spared) (back .held) (back .free) (back .on) (back .new) b row ≡ gainBefore s p t w b
+  pub gain-back : row ≡ w .gain b → gainRow (back .saves) (back .dispensable) (back .held) (back .free) (back .on) (back .new) b row ≡ gainBefore s p t w b
   unfolding gainBefore
-  gain-back e = rw (e, c .saves, c .spared, c .held, c .on, c .new, c .free)
+  gain-back e = rw (e, c .saves, c .dispensable, c .held, c .on, c .new, c .free)

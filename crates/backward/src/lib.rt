@@ -16,7 +16,7 @@ ghost use Prim.Native.Nat.{ℕ, _≤_, _+_};
 ghost use lib.ListN.{length, getD};
 ghost use Rattle.units.specs.Sets.{bit};
 ghost use Rattle.tables.specs.Places.{rowsIn, laterIn};
-ghost use Rattle.tables.specs.Tables.{rowCount, onWord, offWord, savesBefore, sparedBefore, evenBefore, gainBefore};
+ghost use Rattle.tables.specs.Tables.{rowCount, onWord, offWord, savesBefore, dispensableBefore, evenBefore, gainBefore};
 
 mod find;
 mod rows;
@@ -32,7 +32,7 @@ pub struct PlanStep {
 // What is still to come after a step, but for the rows.
 pub struct Sides {
     pub saves: u64,
-    pub spared: u64,
+    pub dispensable: u64,
 }
 
 // The words of the chart at a step.
@@ -60,13 +60,13 @@ pub fn read_words(
         ⌜
         r .on ≡
         onWord tight (x .limits) (x .after) (rowsIn (now (rows .entry)) at)
-        (laterIn (sides .saves) (sides .spared) (now (even .entry)) (now (gain .entry)))
+        (laterIn (sides .saves) (sides .dispensable) (now (even .entry)) (now (gain .entry)))
         ⌝ }
     ensures { λ r.
         ⌜
         r .off ≡
         offWord tight us (x .limits) (x .after) (rowsIn (now (rows .entry)) at)
-        (laterIn (sides .saves) (sides .spared) (now (even .entry)) (now (gain .entry)))
+        (laterIn (sides .saves) (sides .dispensable) (now (even .entry)) (now (gain .entry)))
         ⌝ }
 {
     let s = x.limits;
@@ -75,7 +75,7 @@ pub fn read_words(
     let held = difference(t, s.lower);
     let many = size(t) as u64;
     let joining = choose(many < s.greatest, choose(tight, sides.saves, ALL), 0);
-    let loose = choose(s.least < many, choose(tight, sides.spared, ALL), 0);
+    let loose = choose(s.least < many, choose(tight, sides.dispensable, ALL), 0);
     let found = find_places(rows, at, even, gain, tight, held, free);
     Words {
         on: union(t, intersection(free, union(joining, found.joined))),
@@ -93,24 +93,24 @@ pub fn step_back(x: PlanStep, sides: Sides, even: &mut [u64], gain: &mut [u64]) 
     ensures { λ r.
         ⌜
         r .saves ≡
-        savesBefore (x .limits) (x .before) (x .after) (laterIn (sides .saves) (sides .spared) (now (even .entry)) (now (gain .entry)))
+        savesBefore (x .limits) (x .before) (x .after) (laterIn (sides .saves) (sides .dispensable) (now (even .entry)) (now (gain .entry)))
         ⌝ }
     ensures { λ r.
         ⌜
-        r .spared ≡
-        sparedBefore (x .limits) (x .before) (x .after) (laterIn (sides .saves) (sides .spared) (now (even .entry)) (now (gain .entry)))
+        r .dispensable ≡
+        dispensableBefore (x .limits) (x .before) (x .after) (laterIn (sides .saves) (sides .dispensable) (now (even .entry)) (now (gain .entry)))
         ⌝ }
     ensures { λ _.
         ⌜
         ((b : ℕ) → bit (x .held) b ≡ 1
         → getD (now (even .exit)) b 0 ≡
-        evenBefore (x .limits) (x .before) (x .after) (laterIn (sides .saves) (sides .spared) (now (even .entry)) (now (gain .entry))) b)
+        evenBefore (x .limits) (x .before) (x .after) (laterIn (sides .saves) (sides .dispensable) (now (even .entry)) (now (gain .entry))) b)
         ⌝ }
     ensures { λ _.
         ⌜
         ((b : ℕ) → bit (x .held) b ≡ 1
         → getD (now (gain .exit)) b 0 ≡
-        gainBefore (x .limits) (x .before) (x .after) (laterIn (sides .saves) (sides .spared) (now (even .entry)) (now (gain .entry))) b)
+        gainBefore (x .limits) (x .before) (x .after) (laterIn (sides .saves) (sides .dispensable) (now (even .entry)) (now (gain .entry))) b)
         ⌝ }
 {
     let s = x.limits;
@@ -121,21 +121,21 @@ pub fn step_back(x: PlanStep, sides: Sides, even: &mut [u64], gain: &mut [u64]) 
     let new = difference(t, p);
     let many = size(t) as u64;
     let joining = choose(many < s.greatest, sides.saves, 0);
-    let loose = choose(s.least < many, sides.spared, 0);
+    let loose = choose(s.least < many, sides.dispensable, 0);
     let found = find_savings(even, gain, held, p, intersection(free, p), free);
     let saves = union(new, intersection(free, union(joining, found.joined)));
-    let spared = union(
+    let dispensable = union(
         difference(p, t),
         union(intersection(held, loose), found.passed),
     );
     let back = Back {
         saves,
-        spared,
+        dispensable,
         held,
         on: t,
         new,
         free,
     };
     turn_back(even, gain, back, x.held);
-    Sides { saves, spared }
+    Sides { saves, dispensable }
 }

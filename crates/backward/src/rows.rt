@@ -12,11 +12,11 @@ ghost use lib.ListN.{length, getD};
 ghost use Rattle.units.specs.Sets.{bit};
 ghost use Rattle.tables.specs.Tables.{rowCount, evenRow, gainRow};
 
-// What the rows of a step have in common, going backward: the units with which a switch is saved before the step, those that are spared, those held, on
+// What the rows of a step have in common, going backward: the units with which a switch is saved before the step, those that are dispensable, those held, on
 // and new after it, and the free ones.
 pub struct Back {
     pub saves: u64,
-    pub spared: u64,
+    pub dispensable: u64,
     pub held: u64,
     pub on: u64,
     pub new: u64,
@@ -26,22 +26,22 @@ pub struct Back {
 // The even row of unit b before a step, from its row after.
 fn even_row(back: Back, b: u32, row: u64) -> u64
     requires { ⌜ b < 64 ⌝ }
-    ensures { λ r. ⌜ r ≡ evenRow (back .saves) (back .spared) (back .held) (back .free) b row ⌝ }
+    ensures { λ r. ⌜ r ≡ evenRow (back .saves) (back .dispensable) (back .held) (back .free) b row ⌝ }
 {
-    let spared = choose(contains(back.spared, b), ALL, 0);
+    let dispensable = choose(contains(back.dispensable, b), ALL, 0);
     let stays = choose(contains(back.held, b), intersection(row, back.free), 0);
-    union(back.saves, union(spared, stays))
+    union(back.saves, union(dispensable, stays))
 }
 
 // The gain row of unit b before a step, from its row after.
 fn gain_row(back: Back, b: u32, row: u64) -> u64
     requires { ⌜ b < 64 ⌝ }
-    ensures { λ r. ⌜ r ≡ gainRow (back .saves) (back .spared) (back .held) (back .free) (back .on) (back .new) b row ⌝ }
+    ensures { λ r. ⌜ r ≡ gainRow (back .saves) (back .dispensable) (back .held) (back .free) (back .on) (back .new) b row ⌝ }
 {
     let leaves = choose(contains(back.on, b), 0, back.saves);
-    let spared = choose(contains(back.spared, b), back.new, 0);
+    let dispensable = choose(contains(back.dispensable, b), back.new, 0);
     let stays = choose(contains(back.held, b), intersection(row, back.free), 0);
-    union(leaves, union(spared, stays))
+    union(leaves, union(dispensable, stays))
 }
 
 // Turns the rows of the units of a set back over a step.
@@ -51,13 +51,13 @@ pub fn turn_back(even: &mut [u64], gain: &mut [u64], back: Back, set: u64)
     ensures { λ _.
         ⌜
         ((b : ℕ) → bit set b ≡ 1
-        → getD (now (even .exit)) b 0 ≡ evenRow (back .saves) (back .spared) (back .held) (back .free) b (getD (now (even .entry)) b 0))
+        → getD (now (even .exit)) b 0 ≡ evenRow (back .saves) (back .dispensable) (back .held) (back .free) b (getD (now (even .entry)) b 0))
         ⌝ }
     ensures { λ _.
         ⌜
         ((b : ℕ) → bit set b ≡ 1
         → getD (now (gain .exit)) b 0
-        ≡ gainRow (back .saves) (back .spared) (back .held) (back .free) (back .on) (back .new) b (getD (now (gain .entry)) b 0))
+        ≡ gainRow (back .saves) (back .dispensable) (back .held) (back .free) (back .on) (back .new) b (getD (now (gain .entry)) b 0))
         ⌝ }
 {
     let mut left = set;

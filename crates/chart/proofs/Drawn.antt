@@ -13,7 +13,7 @@ use Rattle.plans.specs.Switch.{Satisfiable, total}
 use Rattle.plans.proofs.Cells.{cell-count}
 use Rattle.plans.proofs.Fewest.{support-length}
 use Rattle.plans.proofs.Laid.{sets-first}
-use Rattle.tables.specs.Tables.{onSpared, offSpared}
+use Rattle.tables.specs.Tables.{onBySlack, offBySlack}
 use Rattle.tables.proofs.Charted.{on-charted, off-charted}
 use Rattle.chart.specs.Joining.{joining}
 use Rattle.chart.proofs.Joins.{joined-words, cleared-empty}
@@ -34,25 +34,25 @@ drawn word words out n long room same {cleared} c a =
     ∙ ap (λ l. sets l 0 words) c
     ∙ sets-again (replicate n 0) words out (length-replicate {A = ℕ} n 0 ∙ sym long) (omega arith)
 
-module _ (d spare start : ℕ) (ss : List Limits) (sat : Satisfiable ss) (low : Below d ss) (few : d ≤ 64) (plan : List ℕ) (planned : plan ≡ findSupport start ss) where
+module _ (d slack start : ℕ) (ss : List Limits) (sat : Satisfiable ss) (low : Below d ss) (few : d ≤ 64) (plan : List ℕ) (planned : plan ≡ findSupport start ss) where
   -- the plan has a set for each step
   pub plan-many : length plan ≡ length ss
   plan-many = ap length planned ∙ support-length start ss
 
   module _ (out : List ℕ) (room : length ss ≤ length out) {cleared after : List ℕ} (empty : cleared ≡ sets out 0 (replicate (length plan) 0)) where
     -- so the output holds the chart: the units that can be on, or those that can be off
-    pub on-drawn : after ≡ sets cleared 0 (joining (onSpared spare start ss plan) cleared 0 (length ss))
-        → after ≡ sets out 0 (canBeOn allows d (total start plan + spare) start ss)
+    pub on-drawn : after ≡ sets cleared 0 (joining (onBySlack slack start ss plan) cleared 0 (length ss))
+        → after ≡ sets out 0 (canBeOn allows d (total start plan + slack) start ss)
     on-drawn =
-        drawn (onSpared spare start ss plan) (canBeOn allows d (total start plan + spare) start ss) out (length ss)
-        (cell-count d (total start plan + spare) start ss true) room
-        (λ i h. subst (λ p. onSpared spare start ss p i ≡ getD (canBeOn allows d (total start p + spare) start ss) i 0) (sym planned) (on-charted d spare start ss sat low few i h))
+        drawn (onBySlack slack start ss plan) (canBeOn allows d (total start plan + slack) start ss) out (length ss)
+        (cell-count d (total start plan + slack) start ss true) room
+        (λ i h. subst (λ p. onBySlack slack start ss p i ≡ getD (canBeOn allows d (total start p + slack) start ss) i 0) (sym planned) (on-charted d slack start ss sat low few i h))
         (rw plan-many at empty)
 
-    pub off-drawn : (us : ℕ) → us ≡ 2 ^ d - 1 → after ≡ sets cleared 0 (joining (offSpared us spare start ss plan) cleared 0 (length ss))
-        → after ≡ sets out 0 (canBeOff allows d (total start plan + spare) start ss)
+    pub off-drawn : (us : ℕ) → us ≡ 2 ^ d - 1 → after ≡ sets cleared 0 (joining (offBySlack us slack start ss plan) cleared 0 (length ss))
+        → after ≡ sets out 0 (canBeOff allows d (total start plan + slack) start ss)
     off-drawn us e a =
-        drawn (offSpared (2 ^ d - 1) spare start ss plan) (canBeOff allows d (total start plan + spare) start ss) out (length ss)
-        (cell-count d (total start plan + spare) start ss false) room
-        (λ i h. subst (λ p. offSpared (2 ^ d - 1) spare start ss p i ≡ getD (canBeOff allows d (total start p + spare) start ss) i 0) (sym planned) (off-charted d spare start ss sat low few i h))
+        drawn (offBySlack (2 ^ d - 1) slack start ss plan) (canBeOff allows d (total start plan + slack) start ss) out (length ss)
+        (cell-count d (total start plan + slack) start ss false) room
+        (λ i h. subst (λ p. offBySlack (2 ^ d - 1) slack start ss p i ≡ getD (canBeOff allows d (total start p + slack) start ss) i 0) (sym planned) (off-charted d slack start ss sat low few i h))
         (rw plan-many at empty) (rw e at a)

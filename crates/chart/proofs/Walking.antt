@@ -14,7 +14,7 @@ use Rattle.plans.specs.Rows.{stepAt}
 use Rattle.plans.specs.declared.Limits.{Limits}
 use Rattle.plans.proofs.Laid.{steps-from}
 use Rattle.tables.specs.Places.{laterIn}
-use Rattle.tables.specs.Tables.{held, free, more, less, setAt, heldAt, rowsAt, Later, ended, savesBefore, sparedBefore, evenRow, gainRow, evenBefore, gainBefore, stepped, laterFrom, inPlace, onWord, offWord, laterAt, onAt, offAt}
+use Rattle.tables.specs.Tables.{held, free, more, less, setAt, heldAt, rowsAt, Later, ended, savesBefore, dispensableBefore, evenRow, gainRow, evenBefore, gainBefore, stepped, laterFrom, inPlace, onWord, offWord, laterAt, onAt, offAt}
 use Rattle.tables.proofs.Words.{contains-in, contains-out, gathered-same, passing-same}
 use Rattle.chart.specs.Blocks.{SameOn}
 
@@ -37,10 +37,10 @@ module _ (s : Limits) (p t : ℕ) (v w : Later) (a : SameOn (held s t) v w) wher
     unfolding offWord
     off-same us =
         ap (union (difference us t))
-        (passing-same 64 (held s t) (λ b. (less s t && (not tight || contains (v .spared) b)) || meets (inPlace tight f v b) (free s t))
-        (λ b. (less s t && (not tight || contains (w .spared) b)) || meets (inPlace tight g w b) (free s t))
+        (passing-same 64 (held s t) (λ b. (less s t && (not tight || contains (v .dispensable) b)) || meets (inPlace tight f v b) (free s t))
+        (λ b. (less s t && (not tight || contains (w .dispensable) b)) || meets (inPlace tight g w b) (free s t))
         (λ b h e.
-        ap₂ (λ (i j : ℕ). (less s t && (not tight || contains i b)) || meets j (free s t)) (a .spared) (place-same b h e)))
+        ap₂ (λ (i j : ℕ). (less s t && (not tight || contains i b)) || meets j (free s t)) (a .dispensable) (place-same b h e)))
 
   -- the same tables before the step
   pub saves-same : savesBefore s p t v ≡ savesBefore s p t w
@@ -51,14 +51,14 @@ module _ (s : Limits) (p t : ℕ) (v w : Later) (a : SameOn (held s t) v w) wher
       some : (b : ℕ) → b < 64 → bit (difference (held s t) p) b ≡ 1 → v .even b ≡ w .even b
       some b h e = a .even b h (omega (arith, bit-difference (held s t) p b, bit-le (held s t) b))
 
-  pub spared-same : sparedBefore s p t v ≡ sparedBefore s p t w
-  unfolding sparedBefore
-  spared-same =
+  pub dispensable-same : dispensableBefore s p t v ≡ dispensableBefore s p t w
+  unfolding dispensableBefore
+  dispensable-same =
       ap (union (difference p t))
       (passing-same 64 (held s t)
-      (λ b. (less s t && contains (v .spared) b) || (meets (v .even b) (intersection (free s t) p) || meets (v .gain b) (free s t)))
-      (λ b. (less s t && contains (w .spared) b) || (meets (w .even b) (intersection (free s t) p) || meets (w .gain b) (free s t)))
-      (λ b h e. rw (a .spared, a .even b h e, a .gain b h e)))
+      (λ b. (less s t && contains (v .dispensable) b) || (meets (v .even b) (intersection (free s t) p) || meets (v .gain b) (free s t)))
+      (λ b. (less s t && contains (w .dispensable) b) || (meets (w .even b) (intersection (free s t) p) || meets (w .gain b) (free s t)))
+      (λ b h e. rw (a .dispensable, a .even b h e, a .gain b h e)))
 
   -- the row of a unit counts if it is held
   row-agrees : (f g : ℕ → ℕ) (b y : ℕ) → (bit (held s t) b ≡ 1 → f b ≡ g b)
@@ -72,11 +72,11 @@ module _ (s : Limits) (p t : ℕ) (v w : Later) (a : SameOn (held s t) v w) wher
 
   pub even-same : (b : ℕ) → b < 64 → evenBefore s p t v b ≡ evenBefore s p t w b
   unfolding evenBefore evenRow
-  even-same b h = rw (saves-same, spared-same, row-agrees (v .even) (w .even) b (free s t) (a .even b h))
+  even-same b h = rw (saves-same, dispensable-same, row-agrees (v .even) (w .even) b (free s t) (a .even b h))
 
   pub gain-same : (b : ℕ) → b < 64 → gainBefore s p t v b ≡ gainBefore s p t w b
   unfolding gainBefore gainRow
-  gain-same b h = rw (saves-same, spared-same, row-agrees (v .gain) (w .gain) b (free s t) (a .gain b h))
+  gain-same b h = rw (saves-same, dispensable-same, row-agrees (v .gain) (w .gain) b (free s t) (a .gain b h))
 
 -- ---- along the plan
 
@@ -121,16 +121,16 @@ module _ (start : ℕ) (ss : List Limits) (plan : List ℕ) (i : ℕ) (h : i < l
     off-here us = off-same s p t w v agrees tight f (rowsAt start ss plan (suc i)) after us
 
   -- and what is still to come before the step
-  pub agrees-before : (saves spared : ℕ) (even gain : List ℕ) → saves ≡ savesBefore s p t w → spared ≡ sparedBefore s p t w
+  pub agrees-before : (saves dispensable : ℕ) (even gain : List ℕ) → saves ≡ savesBefore s p t w → dispensable ≡ dispensableBefore s p t w
       → ((b : ℕ) → bit (heldAt ss plan i) b ≡ 1 → getD even b 0 ≡ evenBefore s p t w b)
       → ((b : ℕ) → bit (heldAt ss plan i) b ≡ 1 → getD gain b 0 ≡ gainBefore s p t w b)
-      → SameOn (heldAt ss plan i) (laterIn saves spared even gain) (laterAt start ss plan i)
+      → SameOn (heldAt ss plan i) (laterIn saves dispensable even gain) (laterAt start ss plan i)
   unfolding stepped
-  agrees-before saves spared even gain e f g j =
+  agrees-before saves dispensable even gain e f g j =
       rw (later-on start ss plan i h k)
       (record {
         saves = e ∙ saves-same s p t w v agrees;
-        spared = f ∙ spared-same s p t w v agrees;
+        dispensable = f ∙ dispensable-same s p t w v agrees;
         even = λ u l m. ap (λ (n : ℕ). getD even n 0) (zero-add u) ∙ g u m ∙ even-same s p t w v agrees u l;
         gain = λ u l m. ap (λ (n : ℕ). getD gain n 0) (zero-add u) ∙ j u m ∙ gain-same s p t w v agrees u l;
       })

@@ -18,15 +18,15 @@ planStepAt start ss plan i = record { limits = stepAt ss i; before = setAt start
 -- what is still to come is the same, but for the rows of units outside a set
 pub record SameOn (set : ℕ) (x y : Later) : Type 0 where
   pub saves : x .saves ≡ y .saves
-  pub spared : x .spared ≡ y .spared
+  pub dispensable : x .dispensable ≡ y .dispensable
   pub even : (b : ℕ) → b < rowCount → bit set b ≡ 1 → x .even b ≡ y .even b
   pub gain : (b : ℕ) → b < rowCount → bit set b ≡ 1 → x .gain b ≡ y .gain b
 
 -- what is still to come after i steps is in memory, in two words and two tables, as far as the units held then go
-pub record ToCome (start : ℕ) (ss : List Limits) (plan : List ℕ) (i saves spared : ℕ) (even gain : List ℕ) : Type 0 where
+pub record ToCome (start : ℕ) (ss : List Limits) (plan : List ℕ) (i saves dispensable : ℕ) (even gain : List ℕ) : Type 0 where
   pub evens : length even ≡ rowCount
   pub gains : length gain ≡ rowCount
-  pub later : SameOn (heldAt ss plan i) (laterIn saves spared even gain) (laterAt start ss plan i)
+  pub later : SameOn (heldAt ss plan i) (laterIn saves dispensable even gain) (laterAt start ss plan i)
 
 -- the steps from `first` to `last` are within a block, and the forward rows after each of them are in memory
 pub record Ready (start : ℕ) (ss : List Limits) (plan : List ℕ) (first last : ℕ) (rows : List ℕ) : Type 0 where

@@ -8,7 +8,7 @@ ghost use Prim.Native.Nat.{_≤_};
 ghost use lib.ListN.{length};
 ghost use lib.Seq.{sets};
 ghost use Rattle.plans.specs.Rows.{stepsIn, Rows};
-ghost use Rattle.tables.specs.Tables.{onSpared, offSpared};
+ghost use Rattle.tables.specs.Tables.{onBySlack, offBySlack};
 ghost use Rattle.chart.specs.Joining.{joining};
 
 pub mod ample;
@@ -17,12 +17,12 @@ pub mod scarce;
 pub mod whole;
 
 // Joins the words of the chart to what the first places of the outputs hold, and leaves the others as they were: in `on` the units that can be on in each
-// step, in `off` those of us that can be off. `plan` is the plan that is handed out, and the bound leaves `spare` switches to spare.
+// step, in `off` those of us that can be off. `plan` is the plan that is handed out, and the bound leaves `slack` switches to spare.
 pub fn draw_chart(
     steps: &[u64],
     start: u64,
     us: u64,
-    spare: u32,
+    slack: u32,
     plan: &[u64],
     on: &mut [u64],
     off: &mut [u64],
@@ -35,20 +35,20 @@ pub fn draw_chart(
         ⌜
         now (on .exit) ≡
         sets (now (on .entry)) 0
-        (joining (onSpared spare start (stepsIn (now (steps .entry))) (now (plan .entry))) (now (on .entry)) 0
+        (joining (onBySlack slack start (stepsIn (now (steps .entry))) (now (plan .entry))) (now (on .entry)) 0
         (length (stepsIn (now (steps .entry)))))
         ⌝ }
     ensures { λ _.
         ⌜
         now (off .exit) ≡
         sets (now (off .entry)) 0
-        (joining (offSpared us spare start (stepsIn (now (steps .entry))) (now (plan .entry))) (now (off .entry)) 0
+        (joining (offBySlack us slack start (stepsIn (now (steps .entry))) (now (plan .entry))) (now (off .entry)) 0
         (length (stepsIn (now (steps .entry)))))
         ⌝ }
 {
-    if 1 < spare {
+    if 1 < slack {
         ample(steps, us, on, off);
         return;
     }
-    scarce(steps, plan, start, spare == 0, us, on, off)
+    scarce(steps, plan, start, slack == 0, us, on, off)
 }

@@ -6,11 +6,11 @@ use backward::read_words;
 use backward::step_back;
 use forward::BLOCK;
 use forward::BLOCK_WORDS;
-use forward::MARK_WORDS;
+use forward::CHECKPOINT_WORDS;
 use forward::ROWS;
+use forward::checkpoint;
 use forward::copy_rows;
 use forward::held_before;
-use forward::mark;
 use forward::set_before;
 use forward::turn_block;
 use switch::rows::step_at;
@@ -59,11 +59,11 @@ fn back_block(
     requires { ⌜ Rows (now steps) ⌝ }
     requires { ⌜ length (now plan) ≡ length (stepsIn (now steps)) ⌝ }
     requires { ⌜ Ready start (stepsIn (now steps)) (now plan) first last (now rows) ⌝ }
-    requires { ⌜ ToCome start (stepsIn (now steps)) (now plan) last (sides .saves) (sides .spared) (now even) (now gain) ⌝ }
+    requires { ⌜ ToCome start (stepsIn (now steps)) (now plan) last (sides .saves) (sides .dispensable) (now even) (now gain) ⌝ }
     requires { ⌜ last ≤ length (now on) ⌝ }
     requires { ⌜ last ≤ length (now off) ⌝ }
     ensures { λ r.
-        ⌜ ToCome start (stepsIn (now (steps .entry))) (now (plan .entry)) first (r .saves) (r .spared) (now (even .exit)) (now (gain .exit)) ⌝ }
+        ⌜ ToCome start (stepsIn (now (steps .entry))) (now (plan .entry)) first (r .saves) (r .dispensable) (now (even .exit)) (now (gain .exit)) ⌝ }
     ensures { λ _.
         ⌜
         now (on .exit) ≡
@@ -120,18 +120,18 @@ pub fn scarce(
         ⌝ }
 {
     let mut rows = [0u64; BLOCK_WORDS];
-    let mut marks = [0u64; MARK_WORDS];
+    let mut checkpoints = [0u64; CHECKPOINT_WORDS];
     let mut even = [ALL; ROWS];
     let mut gain = [0u64; ROWS];
-    mark(steps, plan, start, &mut rows, &mut marks);
+    checkpoint(steps, plan, start, &mut rows, &mut checkpoints);
     let mut sides = Sides {
         saves: 0,
-        spared: ALL,
+        dispensable: ALL,
     };
     let mut last = plan.len();
     while 0 < last {
         let k = (last - 1) / BLOCK;
-        copy_rows(&marks, ROWS * k, &mut rows, 0);
+        copy_rows(&checkpoints, ROWS * k, &mut rows, 0);
         turn_block(steps, plan, start, BLOCK * k, last, &mut rows);
         sides = back_block(
             steps,

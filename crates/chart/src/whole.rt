@@ -12,12 +12,12 @@ ghost use Rattle.plans.specs.Support.{findSupport};
 ghost use Rattle.plans.specs.Switch.{Satisfiable, total};
 
 // The chart of steps with units below d, into the first places of the outputs: the units that can be on and those that can be off, over all plans that
-// make at most `spare` switches more than the given one, which is FindSupport's.
+// make at most `slack` switches more than the given one, which is FindSupport's.
 pub fn draw_whole(
     steps: &[u64],
     start: u64,
     d: u32,
-    spare: u32,
+    slack: u32,
     plan: &[u64],
     on: &mut [u64],
     off: &mut [u64],
@@ -32,16 +32,16 @@ pub fn draw_whole(
     ensures { λ _.
         ⌜
         now (on .exit) ≡
-        sets (now (on .entry)) 0 (canBeOn allows d (total start (now (plan .entry)) + spare) start (stepsIn (now (steps .entry))))
+        sets (now (on .entry)) 0 (canBeOn allows d (total start (now (plan .entry)) + slack) start (stepsIn (now (steps .entry))))
         ⌝ }
     ensures { λ _.
         ⌜
         now (off .exit) ≡
-        sets (now (off .entry)) 0 (canBeOff allows d (total start (now (plan .entry)) + spare) start (stepsIn (now (steps .entry))))
+        sets (now (off .entry)) 0 (canBeOff allows d (total start (now (plan .entry)) + slack) start (stepsIn (now (steps .entry))))
         ⌝ }
 {
     let us = units_below(d);
     clear(on, plan.len());
     clear(off, plan.len());
-    draw_chart(steps, start, us, spare, plan, on, off)
+    draw_chart(steps, start, us, slack, plan, on, off)
 }

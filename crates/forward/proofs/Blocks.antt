@@ -112,15 +112,15 @@ module _ (start : ℕ) (ss : List Limits) (plan : List ℕ) where
           rw (last, place) k
 
   -- the rows before each block up to the k-th
-  abbrev pub MarkedTo : ℕ → List ℕ → Type 0
-  MarkedTo k l = (j : ℕ) → j ≤ k → RowsKept start ss plan (blockSize * j) l (rowCount * j)
+  abbrev pub CheckpointsTo : ℕ → List ℕ → Type 0
+  CheckpointsTo k l = (j : ℕ) → j ≤ k → RowsKept start ss plan (blockSize * j) l (rowCount * j)
 
-  pub marks-begun : (l : List ℕ) → MarkedTo 0 l
-  marks-begun l j h = let e : j ≡ 0 = omega arith in rw e (kept-begun l 0)
+  pub checkpoints-begun : (l : List ℕ) → CheckpointsTo 0 l
+  checkpoints-begun l j h = let e : j ≡ 0 = omega arith in rw e (kept-begun l 0)
 
-  pub marks-on : (k : ℕ) (l m : List ℕ) → MarkedTo k l → SameBelow (rowCount * k + rowCount) l m
-      → RowsKept start ss plan (blockSize * k + blockSize) m (rowCount * k + rowCount) → MarkedTo (k + 1) m
-  marks-on k l m all same next j h = go (decLe j k)
+  pub checkpoints-on : (k : ℕ) (l m : List ℕ) → CheckpointsTo k l → SameBelow (rowCount * k + rowCount) l m
+      → RowsKept start ss plan (blockSize * k + blockSize) m (rowCount * k + rowCount) → CheckpointsTo (k + 1) m
+  checkpoints-on k l m all same next j h = go (decLe j k)
     where
       go : Dec (j ≤ k) → RowsKept start ss plan (blockSize * j) m (rowCount * j)
       go (yes y) = λ b u e. same (rowCount * j + b) (omega arith) ∙ all j y b u e

@@ -18,8 +18,8 @@ abbrev pub blockWords : ℕ
 blockWords = rowCount * (blockSize + 1)
 
 -- the words of the tables before each block
-abbrev pub markWords : ℕ
-markWords = rowCount * (stepLimit / blockSize)
+abbrev pub checkpointWords : ℕ
+checkpointWords = rowCount * (stepLimit / blockSize)
 
 -- from a place on, the rows of the units held after i steps
 abbrev pub RowsKept : ℕ → List Limits → List ℕ → ℕ → List ℕ → ℕ → Type 0
@@ -30,8 +30,8 @@ abbrev pub AllKept : ℕ → List Limits → List ℕ → ℕ → ℕ → List �
 AllKept start ss plan first last l = (j : ℕ) → first + j ≤ last → RowsKept start ss plan (first + j) l (rowCount * j)
 
 -- the rows before each block, one table after the other
-abbrev pub Marked : ℕ → List Limits → List ℕ → List ℕ → Type 0
-Marked start ss plan l = (k : ℕ) → blockSize * k < length plan → RowsKept start ss plan (blockSize * k) l (rowCount * k)
+abbrev pub CheckpointsKept : ℕ → List Limits → List ℕ → List ℕ → Type 0
+CheckpointsKept start ss plan l = (k : ℕ) → blockSize * k < length plan → RowsKept start ss plan (blockSize * k) l (rowCount * k)
 
 -- the places below some place are as they were
 abbrev pub SameBelow : ℕ → List ℕ → List ℕ → Type 0

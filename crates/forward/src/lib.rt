@@ -14,7 +14,7 @@ ghost use Rattle.units.specs.Sets.{bit};
 ghost use Rattle.plans.specs.Rows.{stepsIn, Rows};
 ghost use Rattle.tables.specs.Places.{rowsIn};
 ghost use Rattle.tables.specs.Tables.{rowCount, held, turned, setAt, heldAt};
-ghost use Rattle.forward.specs.Kept.{blockSize, blockWords, markWords, RowsKept, AllKept, Marked, SameBelow};
+ghost use Rattle.forward.specs.Kept.{blockSize, blockWords, checkpointWords, RowsKept, AllKept, CheckpointsKept, SameBelow};
 
 mod rows;
 
@@ -25,7 +25,7 @@ pub const BLOCK: usize = 16;
 // The words of the tables before a block and after each of its steps.
 pub const BLOCK_WORDS: usize = ROWS * (BLOCK + 1);
 // The words of the tables before each block.
-pub const MARK_WORDS: usize = ROWS * (Limits::STEPS / BLOCK);
+pub const CHECKPOINT_WORDS: usize = ROWS * (Limits::STEPS / BLOCK);
 
 // The set of the plan before the step at i.
 pub fn set_before(plan: &[u64], start: u64, i: usize) -> u64
@@ -113,19 +113,25 @@ pub fn copy_rows(from: &[u64], at: usize, rows: &mut [u64], to: usize)
     }
 }
 
-// Writes the rows before each block to `marks`. It works in `rows`.
-pub fn mark(steps: &[u64], plan: &[u64], start: u64, rows: &mut [u64], marks: &mut [u64])
+// Writes the rows before each block to `checkpoints`. It works in `rows`.
+pub fn checkpoint(
+    steps: &[u64],
+    plan: &[u64],
+    start: u64,
+    rows: &mut [u64],
+    checkpoints: &mut [u64],
+)
     requires { ⌜ Rows (now steps) ⌝ }
     requires { ⌜ length (now plan) ≡ length (stepsIn (now steps)) ⌝ }
     requires { ⌜ length (now rows) ≡ blockWords ⌝ }
-    requires { ⌜ length (now marks) ≡ markWords ⌝ }
-    ensures { λ _. ⌜ Marked start (stepsIn (now (steps .entry))) (now (plan .entry)) (now (marks .exit)) ⌝ }
+    requires { ⌜ length (now checkpoints) ≡ checkpointWords ⌝ }
+    ensures { λ _. ⌜ CheckpointsKept start (stepsIn (now (steps .entry))) (now (plan .entry)) (now (checkpoints .exit)) ⌝ }
 {
     let mut k = 0;
     while BLOCK * k + BLOCK < plan.len() {
-        copy_rows(marks, ROWS * k, rows, 0);
+        copy_rows(checkpoints, ROWS * k, rows, 0);
         turn_block(steps, plan, start, BLOCK * k, BLOCK * k + BLOCK, rows);
-        copy_rows(rows, ROWS * BLOCK, marks, ROWS * k + ROWS);
+        copy_rows(rows, ROWS * BLOCK, checkpoints, ROWS * k + ROWS);
         k += 1;
     }
 }

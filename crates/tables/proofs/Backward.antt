@@ -14,7 +14,7 @@ use Rattle.plans.specs.declared.Limits.{Limits}
 use Rattle.plans.specs.Switch.{Allows, Satisfiable, switches}
 use Rattle.plans.proofs.Orders.{Ordered}
 use Rattle.plans.proofs.Totals.{switches-insert}
-use Rattle.tables.specs.Tables.{rowCount, gathered, free, held, new, more, less, Later, ended, savesBefore, sparedBefore, evenRow, gainRow, evenBefore, gainBefore, stepped, laterFrom}
+use Rattle.tables.specs.Tables.{rowCount, gathered, free, held, new, more, less, Later, ended, savesBefore, dispensableBefore, evenRow, gainRow, evenBefore, gainBefore, stepped, laterFrom}
 use Rattle.tables.proofs.Changed.{from-more, from-less, to-less, lacks-old, has-new, switches-to, switches-on, allows-more, allows-less, allows-swap}
 use Rattle.tables.proofs.Raised.{Raised, Near}
 use Rattle.tables.proofs.Ranking.{rank, rank-ordered}
@@ -29,11 +29,11 @@ swap x b a = insert (remove x b) a
 -- ---- exact tables
 
 -- The tables w are exact for `due`, the switches still to come from a set, around the set p. They are fewer from p with a exactly if a is in
--- `saves`, and no more from p without b exactly if b is in `spared`. From p with a in place of b they are no more exactly if a is in row b of `even`,
+-- `saves`, and no more from p without b exactly if b is in `dispensable`. From p with a in place of b they are no more exactly if a is in row b of `even`,
 -- and fewer exactly if it is in row b of `gain`.
 pub record Right (due : ℕ → ℕ) (p : ℕ) (w : Later) : Type 0 where
   pub saves : (a : ℕ) → a < 64 → bit p a ≡ 0 → (bit (w .saves) a ≡ 1) ↔ (due (insert p a) + 1 ≤ due p)
-  pub spared : (b : ℕ) → b < 64 → bit p b ≡ 1 → (bit (w .spared) b ≡ 1) ↔ (due (remove p b) ≤ due p)
+  pub dispensable : (b : ℕ) → b < 64 → bit p b ≡ 1 → (bit (w .dispensable) b ≡ 1) ↔ (due (remove p b) ≤ due p)
   pub even : (b a : ℕ) → b < 64 → a < 64 → bit p b ≡ 1 → bit p a ≡ 0 → (bit (w .even b) a ≡ 1) ↔ (due (insert (remove p b) a) ≤ due p)
   pub gain : (b a : ℕ) → b < 64 → a < 64 → bit p b ≡ 1 → bit p a ≡ 0 → (bit (w .gain b) a ≡ 1) ↔ (due (insert (remove p b) a) + 1 ≤ due p)
 
@@ -42,7 +42,7 @@ pub right-ended : (due : ℕ → ℕ) → ((x : ℕ) → due x ≡ 0) → (p : �
 unfolding ended
 right-ended due none p = record {
   saves = λ a l pa. omega (arith, bit-empty a, none p);
-  spared = λ b l pb. omega (arith, bit-all b l, none (remove p b));
+  dispensable = λ b l pb. omega (arith, bit-all b l, none (remove p b));
   even = λ b a l m pb pa. omega (arith, bit-all a m, none (insert (remove p b) a));
   gain = λ b a l m pb pa. omega (arith, bit-empty a, none p);
 }
@@ -52,7 +52,7 @@ right-ended due none p = record {
 -- Let a step go from p to t, and let due₀ and due₁ be the switches still to come before and after it. Let t be a best set from p, and let there be
 -- from each neighbour of p a best set near t. Then the tables of p are exact if those of t are.
 -- From p with a, a set that has a costs one switch less than from p, and the others cost the same. So a is in `saves` exactly if some best set from p
--- has it, and then one near t does: t itself, t with a, or t with a in place of another unit. In the same way, b is in `spared` exactly if some best
+-- has it, and then one near t does: t itself, t with a, or t with a in place of another unit. In the same way, b is in `dispensable` exactly if some best
 -- set from p lacks it. From p with a in place of b, a set that has a costs one less, and a set that has b one more. So for a switch less, a best
 -- set must have a and lack b. For no more, a best set must have a or lack b, or one that costs one more than these must have a and lack b.
 module _ (s : Limits) (due₀ due₁ : ℕ → ℕ) (p t : ℕ) (within : s .upper < 2 ^ 64) (allowed : Allows s t) (attained : due₀ p ≡ switches p t + due₁ t)
@@ -137,8 +137,8 @@ module _ (s : Limits) (due₀ due₁ : ℕ → ℕ) (p t : ℕ) (within : s .upp
   Gets a = (x : ℕ) × (Best 0 x × ((bit x a ≡ 1) × ((v : ℕ) → (v ≡ a → ⊥) → bit x v ≤ bit t v)))
 
   -- a best set that lacks b, and else no unit that t has
-  abbrev Spares : ℕ → Type 0
-  Spares b = (x : ℕ) × (Best 0 x × ((bit x b ≡ 0) × ((v : ℕ) → (v ≡ b → ⊥) → bit t v ≤ bit x v)))
+  abbrev Lacks : ℕ → Type 0
+  Lacks b = (x : ℕ) × (Best 0 x × ((bit x b ≡ 0) × ((v : ℕ) → (v ≡ b → ⊥) → bit t v ≤ bit x v)))
 
   -- `savesBefore` has a unit that was off exactly if some best set has it
   module _ (a : ℕ) (la : a < 64) (pa : bit p a ≡ 0) where
@@ -199,56 +199,56 @@ module _ (s : Limits) (due₀ due₁ : ℕ → ℕ) (p t : ℕ) (within : s .upp
             (λ pe. inr (bit-gathered _ _ _ _ .1 (e, (l, (he, right .gain e a l la te ta .1 (omega arith)))))) (bit-cases p e) in
             in-intersection _ _ _ .1 (fa, in-union₃ _ _ _ _ .1 (inr way))
 
-  -- `sparedBefore` has a unit that was on exactly if some best set lacks it
+  -- `dispensableBefore` has a unit that was on exactly if some best set lacks it
   module _ (b : ℕ) (lb : b < 64) (pb : bit p b ≡ 1) where
-    spared-sound : bit (sparedBefore s p t w) b ≡ 1 → Spares b
-    unfolding sparedBefore
-    spared-sound h =
+    dispensable-sound : bit (dispensableBefore s p t w) b ≡ 1 → Lacks b
+    unfolding dispensableBefore
+    dispensable-sound h =
         ⊎-elim (λ d. (t, (best-same, (in-difference p t b .0 d .1, λ v n. omega arith))))
         (λ r. let (l, (hb, o)) = bit-passing _ _ _ _ .0 r in ⊎-elim (by-less hb) (⊎-elim (by-even hb) (by-gain hb)) (or-true₃ _ _ _ .0 o))
         (in-union _ _ _ .0 h)
       where
-        by-less : bit (held s t) b ≡ 1 → less s t && contains (w .spared) b ≡ true → Spares b
+        by-less : bit (held s t) b ≡ 1 → less s t && contains (w .dispensable) b ≡ true → Lacks b
         by-less hb h =
             let tb = in-held s t b .0 hb .0 in
-            let (l, c) = and-eq-true-iff (less s t) (contains (w .spared) b) .0 h in
-            let best = best-less b tb .1 (l, (hb, omega (arith, right .spared b lb tb .0 (contains-bit (w .spared) b .0 c)))) in
+            let (l, c) = and-eq-true-iff (less s t) (contains (w .dispensable) b) .0 h in
+            let best = best-less b tb .1 (l, (hb, omega (arith, right .dispensable b lb tb .0 (contains-bit (w .dispensable) b .0 c)))) in
             (remove t b, (best, (bit-remove t b, λ v n. omega (arith, bit-remove-other t b v n))))
 
         by-swap : bit (held s t) b ≡ 1 → (c : ℕ) → bit (free s t) c ≡ 1
-            → (c < 64 → bit t b ≡ 1 → bit t c ≡ 0 → due₁ (swap t b c) + 1 ≤ bit p c + due₁ t) → Spares b
+            → (c < 64 → bit t b ≡ 1 → bit t c ≡ 0 → due₁ (swap t b c) + 1 ≤ bit p c + due₁ t) → Lacks b
         by-swap hb c fc h =
             let tb = in-held s t b .0 hb .0 in
             let (uc, tc) = in-free s t c .0 fc in
             let best = best-swap 0 b c tb tc .1 (hb, (fc, omega (arith, h (low c uc) tb tc))) in
             (swap t b c, (best, (lacks-old t (swap t b c) b c tb tc refl, λ v n. omega (arith, bit-remove-other t b v n, subset-insert (remove t b) c v))))
 
-        by-even : bit (held s t) b ≡ 1 → meets (w .even b) (intersection (free s t) p) ≡ true → Spares b
+        by-even : bit (held s t) b ≡ 1 → meets (w .even b) (intersection (free s t) p) ≡ true → Lacks b
         by-even hb m =
             let (c, (h, i)) = meets-some _ _ .0 m in
             let (fc, pc) = in-intersection _ _ _ .0 i in
             by-swap hb c fc (λ l tb tc. omega (arith, right .even b c lb l tb tc .0 h))
 
-        by-gain : bit (held s t) b ≡ 1 → meets (w .gain b) (free s t) ≡ true → Spares b
+        by-gain : bit (held s t) b ≡ 1 → meets (w .gain b) (free s t) ≡ true → Lacks b
         by-gain hb m =
             let (c, (h, fc)) = meets-some _ _ .0 m in
             by-swap hb c fc (λ l tb tc. omega (arith, right .gain b c lb l tb tc .0 h))
 
-    spared-gone : bit t b ≡ 0 → bit (sparedBefore s p t w) b ≡ 1
-    unfolding sparedBefore
-    spared-gone tb = in-union _ _ _ .1 (inl (in-difference p t b .1 (pb, tb)))
+    dispensable-gone : bit t b ≡ 0 → bit (dispensableBefore s p t w) b ≡ 1
+    unfolding dispensableBefore
+    dispensable-gone tb = in-union _ _ _ .1 (inl (in-difference p t b .1 (pb, tb)))
 
-    spared-complete : (x : ℕ) → Best 0 x → Near t x → bit x b ≡ 0 → bit (sparedBefore s p t w) b ≡ 1
-    unfolding sparedBefore
-    spared-complete x best n xb =
-        ⊎-elim spared-gone
+    dispensable-complete : (x : ℕ) → Best 0 x → Near t x → bit x b ≡ 0 → bit (dispensableBefore s p t w) b ≡ 1
+    unfolding dispensableBefore
+    dispensable-complete x best n xb =
+        ⊎-elim dispensable-gone
         (λ tb.
         let (hb, o) = on tb (near-out t x n b tb xb) in
         in-union _ _ _ .1 (inr (bit-passing _ _ _ _ .1 (lb, (hb, or-true₃ without evenly better .1 o)))))
         (bit-cases t b)
       where
         without : Bool
-        without = less s t && contains (w .spared) b
+        without = less s t && contains (w .dispensable) b
 
         evenly : Bool
         evenly = meets (w .even b) (intersection (free s t) p)
@@ -260,8 +260,8 @@ module _ (s : Limits) (due₀ due₁ : ℕ → ℕ) (p t : ℕ) (within : s .upp
             → (bit (held s t) b ≡ 1) × ((without ≡ true) ⊎ ((evenly ≡ true) ⊎ (better ≡ true)))
         on tb (inl q) =
             let (l, (hb, h)) = best-less b tb .0 (subst (Best 0) q best) in
-            let c = contains-bit (w .spared) b .1 (right .spared b lb tb .1 (omega arith)) in
-            (hb, inl (and-eq-true-iff (less s t) (contains (w .spared) b) .1 (l, c)))
+            let c = contains-bit (w .dispensable) b .1 (right .dispensable b lb tb .1 (omega arith)) in
+            (hb, inl (and-eq-true-iff (less s t) (contains (w .dispensable) b) .1 (l, c)))
         on tb (inr (c, (tc, q))) =
             let (hb, (fc, h)) = best-swap 0 b c tb tc .0 (subst (Best 0) q best) in
             let l = low c (in-free s t c .0 fc .0) in
@@ -309,24 +309,24 @@ module _ (s : Limits) (due₀ due₁ : ℕ → ℕ) (p t : ℕ) (within : s .upp
     unfolding evenBefore evenRow
     even-sound h =
         ⊎-elim (λ m. let (x, (best, (xa, sub))) = saves-sound a la pa m in omega (arith, from-best 0 x best, bit-le x b))
-        (⊎-elim by-spared
+        (⊎-elim by-dispensable
         (λ m. omega (arith, turn-sound 1 (w .even b) (λ tb ta r. omega (arith, right .even b a lb la tb ta .0 r)) m)))
         (in-union₃ _ _ _ _ .0 h)
       where
-        by-spared : bit (cond (contains (sparedBefore s p t w) b) all 0) a ≡ 1 → due₀ (swap p b a) ≤ due₀ p
-        by-spared m =
-            let (x, (best, (xb, sup))) = spared-sound b lb pb (in-given (sparedBefore s p t w) b all a .0 m .0) in
+        by-dispensable : bit (cond (contains (dispensableBefore s p t w) b) all 0) a ≡ 1 → due₀ (swap p b a) ≤ due₀ p
+        by-dispensable m =
+            let (x, (best, (xb, sup))) = dispensable-sound b lb pb (in-given (dispensableBefore s p t w) b all a .0 m .0) in
             omega (arith, from-best 0 x best)
 
     even-complete : due₀ (swap p b a) ≤ due₀ p → bit (evenBefore s p t w b) a ≡ 1
     unfolding evenBefore evenRow
     even-complete h = in-union₃ _ _ _ _ .1 (way near-swapped)
       where
-        spared : bit (sparedBefore s p t w) b ≡ 1 → bit (cond (contains (sparedBefore s p t w) b) all 0) a ≡ 1
-        spared m = in-given (sparedBefore s p t w) b all a .1 (m, bit-all a la)
+        dispensable : bit (dispensableBefore s p t w) b ≡ 1 → bit (cond (contains (dispensableBefore s p t w) b) all 0) a ≡ 1
+        dispensable m = in-given (dispensableBefore s p t w) b all a .1 (m, bit-all a la)
 
         way : NearBest (swap p b a) → (bit (savesBefore s p t w) a ≡ 1)
-            ⊎ ((bit (cond (contains (sparedBefore s p t w) b) all 0) a ≡ 1) ⊎ (bit (inTurn (w .even b)) a ≡ 1))
+            ⊎ ((bit (cond (contains (dispensableBefore s p t w) b) all 0) a ≡ 1) ⊎ (bit (inTurn (w .even b)) a ≡ 1))
         way (x, (f, (e, n))) = go (bit-cases x a) (bit-cases x b) (bit-cases t a) (bit-cases t b)
           where
             best : (k : ℕ) → bit x a ≤ bit x b + k → Best k x
@@ -334,12 +334,12 @@ module _ (s : Limits) (due₀ due₁ : ℕ → ℕ) (p t : ℕ) (within : s .upp
 
             go : (bit x a ≡ 0) ⊎ (bit x a ≡ 1) → (bit x b ≡ 0) ⊎ (bit x b ≡ 1) → (bit t a ≡ 0) ⊎ (bit t a ≡ 1) → (bit t b ≡ 0) ⊎ (bit t b ≡ 1)
                 → (bit (savesBefore s p t w) a ≡ 1)
-                ⊎ ((bit (cond (contains (sparedBefore s p t w) b) all 0) a ≡ 1) ⊎ (bit (inTurn (w .even b)) a ≡ 1))
+                ⊎ ((bit (cond (contains (dispensableBefore s p t w) b) all 0) a ≡ 1) ⊎ (bit (inTurn (w .even b)) a ≡ 1))
             go (inl xa) (inr xb) c d = absurd (omega (arith, least p x f, switches-on p (swap p b a) b a pb pa refl x))
-            go (inl xa) (inl xb) c d = inr (inl (spared (spared-complete b lb pb x (best 0 (omega arith)) n xb)))
+            go (inl xa) (inl xb) c d = inr (inl (dispensable (dispensable-complete b lb pb x (best 0 (omega arith)) n xb)))
             go (inr xa) (inr xb) c d = inl (saves-complete a la pa x (best 0 (omega arith)) n xa)
             go (inr xa) (inl xb) (inr ta) d = inl (saves-new a la pa ta)
-            go (inr xa) (inl xb) (inl ta) (inl tb) = inr (inl (spared (spared-gone b lb pb tb)))
+            go (inr xa) (inl xb) (inl ta) (inl tb) = inr (inl (dispensable (dispensable-gone b lb pb tb)))
             go (inr xa) (inl xb) (inl ta) (inr tb) =
                 inr (inr (turn-complete 1 (w .even b) x (best 1 (omega arith)) n xb xa tb ta (λ l. right .even b a lb la tb ta .1 (omega arith))))
 
@@ -347,7 +347,7 @@ module _ (s : Limits) (due₀ due₁ : ℕ → ℕ) (p t : ℕ) (within : s .upp
     unfolding gainBefore gainRow
     gain-sound h =
         ⊎-elim by-saves
-        (⊎-elim by-spared
+        (⊎-elim by-dispensable
         (λ m. omega (arith, turn-sound 0 (w .gain b) (λ tb ta r. omega (arith, right .gain b a lb la tb ta .0 r)) m)))
         (in-union₃ _ _ _ _ .0 h)
       where
@@ -357,10 +357,10 @@ module _ (s : Limits) (due₀ due₁ : ℕ → ℕ) (p t : ℕ) (within : s .upp
             let (x, (best, (xa, sub))) = saves-sound a la pa v in
             omega (arith, from-best 0 x best, sub b other)
 
-        by-spared : bit (cond (contains (sparedBefore s p t w) b) (new p t) 0) a ≡ 1 → due₀ (swap p b a) + 1 ≤ due₀ p
-        by-spared m =
-            let (v, c) = in-given (sparedBefore s p t w) b (new p t) a .0 m in
-            let (x, (best, (xb, sup))) = spared-sound b lb pb v in
+        by-dispensable : bit (cond (contains (dispensableBefore s p t w) b) (new p t) 0) a ≡ 1 → due₀ (swap p b a) + 1 ≤ due₀ p
+        by-dispensable m =
+            let (v, c) = in-given (dispensableBefore s p t w) b (new p t) a .0 m in
+            let (x, (best, (xb, sup))) = dispensable-sound b lb pb v in
             omega (arith, from-best 0 x best, sup a (λ q. other (sym q)), in-new p t a .0 c)
 
     gain-complete : due₀ (swap p b a) + 1 ≤ due₀ p → bit (gainBefore s p t w b) a ≡ 1
@@ -368,7 +368,7 @@ module _ (s : Limits) (due₀ due₁ : ℕ → ℕ) (p t : ℕ) (within : s .upp
     gain-complete h = in-union₃ _ _ _ _ .1 (way near-swapped)
       where
         way : NearBest (swap p b a) → (bit (cond (contains t b) 0 (savesBefore s p t w)) a ≡ 1)
-            ⊎ ((bit (cond (contains (sparedBefore s p t w) b) (new p t) 0) a ≡ 1) ⊎ (bit (inTurn (w .gain b)) a ≡ 1))
+            ⊎ ((bit (cond (contains (dispensableBefore s p t w) b) (new p t) 0) a ≡ 1) ⊎ (bit (inTurn (w .gain b)) a ≡ 1))
         way (x, (f, (e, n))) =
             let paid = switches-on p (swap p b a) b a pb pa refl x in
             let xa : bit x a ≡ 1 = omega (arith, least p x f, bit-le x a) in
@@ -377,10 +377,10 @@ module _ (s : Limits) (due₀ due₁ : ℕ → ℕ) (p t : ℕ) (within : s .upp
           where
             go : bit x a ≡ 1 → bit x b ≡ 0 → Best 0 x → (bit t a ≡ 0) ⊎ (bit t a ≡ 1) → (bit t b ≡ 0) ⊎ (bit t b ≡ 1)
                 → (bit (cond (contains t b) 0 (savesBefore s p t w)) a ≡ 1)
-                ⊎ ((bit (cond (contains (sparedBefore s p t w) b) (new p t) 0) a ≡ 1) ⊎ (bit (inTurn (w .gain b)) a ≡ 1))
+                ⊎ ((bit (cond (contains (dispensableBefore s p t w) b) (new p t) 0) a ≡ 1) ⊎ (bit (inTurn (w .gain b)) a ≡ 1))
             go xa xb best c (inl tb) = inl (in-lacking t b (savesBefore s p t w) a .1 (tb, saves-complete a la pa x best n xa))
             go xa xb best (inr ta) (inr tb) =
-                inr (inl (in-given (sparedBefore s p t w) b (new p t) a .1 (spared-complete b lb pb x best n xb, in-new p t a .1 (ta, pa))))
+                inr (inl (in-given (dispensableBefore s p t w) b (new p t) a .1 (dispensable-complete b lb pb x best n xb, in-new p t a .1 (ta, pa))))
             go xa xb best (inl ta) (inr tb) =
                 inr (inr (turn-complete 0 (w .gain b) x best n xb xa tb ta (λ l. right .gain b a lb la tb ta .1 (omega arith))))
 
@@ -396,13 +396,13 @@ module _ (s : Limits) (due₀ due₁ : ℕ → ℕ) (p t : ℕ) (within : s .upp
           let xa : bit x a ≡ 1 = omega (arith, least p x f, bit-le x a) in
           saves-complete a l pa x (record { fits = f; cost = omega arith }) n xa,
     );
-    spared = λ b l pb. (
-      λ h. let (x, (best, (xb, sup))) = spared-sound b l pb h in omega (arith, least (remove p b) x (best .fits), best .cost, from-less p b x pb),
+    dispensable = λ b l pb. (
+      λ h. let (x, (best, (xb, sup))) = dispensable-sound b l pb h in omega (arith, least (remove p b) x (best .fits), best .cost, from-less p b x pb),
       λ h.
           let (x, (f, (e, n))) = near-best (remove p b) b b (λ v n. remove-subset p b v) (λ v n. omega (arith, bit-remove-other p b v n)) in
           let paid = from-less p b x pb in
           let xb : bit x b ≡ 0 = omega (arith, least p x f) in
-          spared-complete b l pb x (record { fits = f; cost = omega arith }) n xb,
+          dispensable-complete b l pb x (record { fits = f; cost = omega arith }) n xb,
     );
     even = λ b a l m pb pa. (even-sound b a l m pb pa, even-complete b a l m pb pa);
     gain = λ b a l m pb pa. (gain-sound b a l m pb pa, gain-complete b a l m pb pa);

@@ -1,5 +1,5 @@
--- The words `onSpared` and `offSpared` are the chart (`on-charted`, `off-charted`): unit by unit they say what `cell` says of all plans. With no switch to
--- spare, or with one, that is `Exact`, and with two or more it is `Spare`.
+-- The words `onBySlack` and `offBySlack` are the chart (`on-charted`, `off-charted`): unit by unit they say what `cell` says of all plans. With no switch to
+-- spare, or with one, that is `Exact`, and with two or more it is `Ample`.
 use mathlib.Core.Path.{_≡_, subst}
 use mathlib.Core.Logic.{⊎-elim, _↔_}
 use mathlib.Core.Bool.{Bool, true, false, cond}
@@ -20,11 +20,11 @@ use Rattle.plans.specs.Switch.{Satisfiable, total}
 use Rattle.plans.proofs.AllPlans.{Shows, SomePlan, plan-below}
 use Rattle.plans.proofs.Cells.{cell, cell-on, cell-beyond}
 use Rattle.plans.proofs.Orders.{ltb-ordered}
-use Rattle.tables.specs.Tables.{rowCount, held, setAt, offWord, ampleOn, ampleOff, laterAt, onAt, offAt, onSpared, offSpared}
+use Rattle.tables.specs.Tables.{rowCount, held, setAt, offWord, ampleOn, ampleOff, laterAt, onAt, offAt, onBySlack, offBySlack}
 use Rattle.tables.proofs.Exact.{on-exact, off-exact}
 use Rattle.tables.proofs.Gathering.{equal-units}
 use Rattle.tables.proofs.Runs.{run, run-feasible, run-support}
-use Rattle.tables.proofs.Spare.{spare-on, spare-off, spare-beyond}
+use Rattle.tables.proofs.Ample.{ample-on, ample-off, ample-beyond}
 use Rattle.tables.proofs.Words.{bit-passing, in-union, in-difference}
 
 -- ---- the words
@@ -53,7 +53,7 @@ below-more d [] h b = tt
 below-more d (s ∷ ss) h b = (omega (arith, b .0, pow-mono h), below-more d ss h (b .1))
 
 module _ (d bound start : ℕ) (ss : List Limits) (sat : Satisfiable ss) (low : Below d ss) (few : d ≤ 64) (tight : Bool)
-    (spare : bound ≡ total start (findSupport start ss) + cond tight 0 1) (i : ℕ) (l : i < length ss) where
+    (slack : bound ≡ total start (findSupport start ss) + cond tight 0 1) (i : ℕ) (l : i < length ss) where
   -- the plan by its recursive ranking
   plan-is : run tieOrder start ss ≡ findSupport start ss
   plan-is = run-support start ss sat
@@ -63,13 +63,13 @@ module _ (d bound start : ℕ) (ss : List Limits) (sat : Satisfiable ss) (low : 
   unfolding onAt laterAt
   on-some u =
       subst (λ plan. (bit (onAt tight start ss plan i) u ≡ 1) ↔ SomePlan bound start ss i (Shows true u)) plan-is
-      (on-exact ltb-ordered start ss sat (below-more d ss few low) i l tight bound (rw plan-is spare) u)
+      (on-exact ltb-ordered start ss sat (below-more d ss few low) i l tight bound (rw plan-is slack) u)
 
   off-some : (u : ℕ) → u < d → (bit (offAt tight (2 ^ d - 1) start ss (findSupport start ss) i) u ≡ 1) ↔ SomePlan bound start ss i (Shows false u)
   unfolding offAt laterAt
   off-some u h =
       subst (λ plan. (bit (offAt tight (2 ^ d - 1) start ss plan i) u ≡ 1) ↔ SomePlan bound start ss i (Shows false u)) plan-is
-      (off-exact ltb-ordered start ss sat (below-more d ss few low) i l tight bound (rw plan-is spare) (2 ^ d - 1) u (bit-full d u h))
+      (off-exact ltb-ordered start ss sat (below-more d ss few low) i l tight bound (rw plan-is slack) (2 ^ d - 1) u (bit-full d u h))
 
   -- none of the units from d up is among those that can be off
   off-beyond : (u : ℕ) → d ≤ u → bit (offAt tight (2 ^ d - 1) start ss (findSupport start ss) i) u ≡ 1 → ⊥
@@ -83,7 +83,7 @@ module _ (d bound start : ℕ) (ss : List Limits) (sat : Satisfiable ss) (low : 
 
 -- ---- the chart
 
-module _ (d spare start : ℕ) (ss : List Limits) (sat : Satisfiable ss) (low : Below d ss) (few : d ≤ 64) (i : ℕ) (l : i < length ss) where
+module _ (d slack start : ℕ) (ss : List Limits) (sat : Satisfiable ss) (low : Below d ss) (few : d ≤ 64) (i : ℕ) (l : i < length ss) where
   -- FindSupport's plan, and the bound that leaves so many switches to spare
   abbrev plan : List ℕ
   plan = findSupport start ss
@@ -92,22 +92,22 @@ module _ (d spare start : ℕ) (ss : List Limits) (sat : Satisfiable ss) (low : 
   bound k = total start plan + k
 
   -- the words of the step at i are the chart's
-  pub on-charted : onSpared spare start ss plan i ≡ getD (canBeOn allows d (bound spare) start ss) i 0
-  unfolding onSpared
-  on-charted = go spare
+  pub on-charted : onBySlack slack start ss plan i ≡ getD (canBeOn allows d (bound slack) start ss) i 0
+  unfolding onBySlack
+  on-charted = go slack
     where
-      go : (k : ℕ) → onSpared k start ss plan i ≡ getD (canBeOn allows d (bound k) start ss) i 0
+      go : (k : ℕ) → onBySlack k start ss plan i ≡ getD (canBeOn allows d (bound k) start ss) i 0
       go zero = on-is d (bound 0) start ss low i l (onAt true start ss plan i) (on-some d (bound 0) start ss sat low few true (omega arith) i l)
       go (suc zero) = on-is d (bound 1) start ss low i l (onAt false start ss plan i) (on-some d (bound 1) start ss sat low few false (omega arith) i l)
       go (suc (suc k)) =
           rw (lt-ltb 1 (suc (suc k)) (omega arith))
-          (on-is d (bound (suc (suc k))) start ss low i l (ampleOn (stepAt ss i)) (spare-on (bound (suc (suc k))) start ss sat (omega arith) i l))
+          (on-is d (bound (suc (suc k))) start ss low i l (ampleOn (stepAt ss i)) (ample-on (bound (suc (suc k))) start ss sat (omega arith) i l))
 
-  pub off-charted : offSpared (2 ^ d - 1) spare start ss plan i ≡ getD (canBeOff allows d (bound spare) start ss) i 0
-  unfolding offSpared
-  off-charted = go spare
+  pub off-charted : offBySlack (2 ^ d - 1) slack start ss plan i ≡ getD (canBeOff allows d (bound slack) start ss) i 0
+  unfolding offBySlack
+  off-charted = go slack
     where
-      go : (k : ℕ) → offSpared (2 ^ d - 1) k start ss plan i ≡ getD (canBeOff allows d (bound k) start ss) i 0
+      go : (k : ℕ) → offBySlack (2 ^ d - 1) k start ss plan i ≡ getD (canBeOff allows d (bound k) start ss) i 0
       go zero =
           off-is d (bound 0) start ss low i l (offAt true (2 ^ d - 1) start ss plan i) (off-some d (bound 0) start ss sat low few true (omega arith) i l)
           (off-beyond d (bound 0) start ss sat low few true (omega arith) i l)
@@ -116,5 +116,5 @@ module _ (d spare start : ℕ) (ss : List Limits) (sat : Satisfiable ss) (low : 
           (off-beyond d (bound 1) start ss sat low few false (omega arith) i l)
       go (suc (suc k)) =
           rw (lt-ltb 1 (suc (suc k)) (omega arith))
-          (off-is d (bound (suc (suc k))) start ss low i l (ampleOff (2 ^ d - 1) (stepAt ss i)) (spare-off (bound (suc (suc k))) start ss sat (omega arith) i l d)
-          (λ u h e. omega (arith, spare-beyond d u (stepAt ss i) h)))
+          (off-is d (bound (suc (suc k))) start ss low i l (ampleOff (2 ^ d - 1) (stepAt ss i)) (ample-off (bound (suc (suc k))) start ss sat (omega arith) i l d)
+          (λ u h e. omega (arith, ample-beyond d u (stepAt ss i) h)))

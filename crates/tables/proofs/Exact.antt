@@ -130,7 +130,7 @@ module _ {tie : ℕ → ℕ → Bool} (o : Ordered tie) (start : ℕ) (ss : List
       rest : drop (suc i) plan ≡ run tie t R
       rest = rest-of-plan tie start ss (suc i) (omega arith) ∙ ap (λ (x : ℕ). run tie x R) (sym (set-at tie start ss (suc i) (omega arith)))
 
-  module _ (tight : Bool) (bound : ℕ) (spare : bound ≡ total start plan + cond tight 0 1) where
+  module _ (tight : Bool) (bound : ℕ) (slack : bound ≡ total start plan + cond tight 0 1) where
     -- so there is a plan with the good set, in which the run goes on from it
     some-by : (on : Bool) (u x : ℕ) → Good tight stage x → Shows on u x → SomePlan bound start ss i (Shows on u)
     unfolding value total

@@ -116,16 +116,16 @@ module _ (tight : Bool) {s : Limits} {p t h : ℕ} {f : ℕ → ℕ} {w : Later}
       go false = (λ k. omega (arith, g .one-more t a), λ k. bit-all a (low-up a ua))
 
   -- without b
-  in-less : (b : ℕ) → bit t b ≡ 1 → (less s t && (not tight || contains (w .spared) b) ≡ true) ↔ Dropped b
+  in-less : (b : ℕ) → bit t b ≡ 1 → (less s t && (not tight || contains (w .dispensable) b) ≡ true) ↔ Dropped b
   in-less b tb =
-      let (each, both) = and-eq-true-iff (less s t) (not tight || contains (w .spared) b) in
+      let (each, both) = and-eq-true-iff (less s t) (not tight || contains (w .dispensable) b) in
       let (is, tests) = less-true s t in
       (λ k. let (m, c) = each k in (is m, go tight .0 c), λ (l, c). both (tests l, go tight .1 c))
     where
-      go : (tight : Bool) → (not tight || contains (w .spared) b ≡ true) ↔ (due (remove t b) ≤ due t + cond tight 0 1)
+      go : (tight : Bool) → (not tight || contains (w .dispensable) b ≡ true) ↔ (due (remove t b) ≤ due t + cond tight 0 1)
       go true =
-          let (has, tests) = contains-bit (w .spared) b in
-          let (is, holds) = g .right .spared b (low-on b tb) tb in
+          let (has, tests) = contains-bit (w .dispensable) b in
+          let (is, holds) = g .right .dispensable b (low-on b tb) tb in
           (λ k. omega (arith, is (has k)), λ k. tests (holds (omega arith)))
       go false = (λ k. due-less b tb, λ k. refl)
 
@@ -161,11 +161,11 @@ module _ (tight : Bool) {s : Limits} {p t h : ℕ} {f : ℕ → ℕ} {w : Later}
   unfolding offWord
   off-word us u i =
       let rows = inPlace tight (turned s p t h f) w in
-      let test : ℕ → Bool = λ b. (less s t && (not tight || contains (w .spared) b)) || meets (rows b) (free s t) in
+      let test : ℕ → Bool = λ b. (less s t && (not tight || contains (w .dispensable) b)) || meets (rows b) (free s t) in
       let (any, of-any) = in-union (difference us t) (passing rowCount (held s t) test) u in
       let (off, of-off) = in-difference us t u in
       let (pass, of-pass) = bit-passing rowCount (held s t) test u in
-      let (one, of-one) = or-true (less s t && (not tight || contains (w .spared) u)) (meets (rows u) (free s t)) in
+      let (one, of-one) = or-true (less s t && (not tight || contains (w .dispensable) u)) (meets (rows u) (free s t)) in
       let (some, meet) = meets-some (rows u) (free s t) in (
         λ k. ⊎-map (λ m. off m .1) (λ m.
             let (l, (z, y)) = pass m in

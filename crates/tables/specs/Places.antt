@@ -10,4 +10,4 @@ rowsIn l at = λ b. getD l (at + b) 0
 
 -- what is still to come after some step, from two words and two tables
 abbrev pub laterIn : ℕ → ℕ → List ℕ → List ℕ → Later
-laterIn saves spared even gain = record { saves = saves; spared = spared; even = rowsIn even 0; gain = rowsIn gain 0 }
+laterIn saves dispensable even gain = record { saves = saves; dispensable = dispensable; even = rowsIn even 0; gain = rowsIn gain 0 }

@@ -1,7 +1,7 @@
 -- The tables from which the chart is read. At a step with limits s the plan goes from the set p to the set t. A neighbour of t has one unit more, or one
 -- unit less, or the one in place of the other; row b of a table is the set of the units a of which something holds of t with a in place of b.
 -- Forward, `turned` says which neighbours are reached at no more than the plan's switches so far; backward, `Later` says how the switches still to come from
--- a neighbour compare with those from t. `onWord` and `offWord` join them. At the end stand `onSpared` and `offSpared`, the words of the chart with any
+-- a neighbour compare with those from t. `onWord` and `offWord` join them. At the end stand `onBySlack` and `offBySlack`, the words of the chart with any
 -- number of switches to spare.
 use mathlib.Core.Bool.{Bool, cond, not, _&&_, _||_}
 use mathlib.Core.List.{List, [], _∷_}
@@ -88,15 +88,15 @@ rowsAt start ss plan (suc i) =
 -- are no more, and the rows of units a in place of b with which there are no more, or one less.
 pub record Later : Type 0 where
   pub saves : ℕ
-  pub spared : ℕ
+  pub dispensable : ℕ
   pub even : ℕ → ℕ
   pub gain : ℕ → ℕ
 
 -- after the last step there are none to come
 unfoldable pub ended : Later
-ended = record { saves = 0; spared = all; even = λ b. all; gain = λ b. 0 }
+ended = record { saves = 0; dispensable = all; even = λ b. all; gain = λ b. 0 }
 
--- The rows of unit b before a step, from its row after, the units that save and those that are spared before the step, those held after it, the free ones,
+-- The rows of unit b before a step, from its row after, the units that save and those that are dispensable before the step, those held after it, the free ones,
 -- and for the gain those that are on after it and those that enter.
 unfoldable pub evenRow : ℕ → ℕ → ℕ → ℕ → ℕ → ℕ → ℕ
 evenRow saving sparing staying able b row =
@@ -114,21 +114,21 @@ module _ (s : Limits) (p t : ℕ) (w : Later) where
       (intersection (free s t)
       (union (cond (more s t) (w .saves) 0) (union (gathered rowCount (difference (held s t) p) (w .even)) (gathered rowCount (held s t) (w .gain)))))
 
-  unfoldable pub sparedBefore : ℕ
-  sparedBefore =
+  unfoldable pub dispensableBefore : ℕ
+  dispensableBefore =
       union (difference p t)
       (passing rowCount (held s t)
-      (λ b. (less s t && contains (w .spared) b) || (meets (w .even b) (intersection (free s t) p) || meets (w .gain b) (free s t))))
+      (λ b. (less s t && contains (w .dispensable) b) || (meets (w .even b) (intersection (free s t) p) || meets (w .gain b) (free s t))))
 
   unfoldable pub evenBefore : ℕ → ℕ
-  evenBefore b = evenRow savesBefore sparedBefore (held s t) (free s t) b (w .even b)
+  evenBefore b = evenRow savesBefore dispensableBefore (held s t) (free s t) b (w .even b)
 
   unfoldable pub gainBefore : ℕ → ℕ
-  gainBefore b = gainRow savesBefore sparedBefore (held s t) (free s t) t (new p t) b (w .gain b)
+  gainBefore b = gainRow savesBefore dispensableBefore (held s t) (free s t) t (new p t) b (w .gain b)
 
   -- the same of the neighbours of p, before the step
   unfoldable pub stepped : Later
-  stepped = record { saves = savesBefore; spared = sparedBefore; even = evenBefore; gain = gainBefore }
+  stepped = record { saves = savesBefore; dispensable = dispensableBefore; even = evenBefore; gain = gainBefore }
 
 -- from the set p on, over the rest of the steps and of the plan
 unfoldable pub laterFrom : ℕ → List Limits → List ℕ → Later
@@ -151,7 +151,7 @@ onWord tight s t turns w =
 unfoldable pub offWord : Bool → ℕ → Limits → ℕ → (ℕ → ℕ) → Later → ℕ
 offWord tight us s t turns w =
     union (difference us t)
-    (passing rowCount (held s t) (λ b. (less s t && (not tight || contains (w .spared) b)) || meets (inPlace tight turns w b) (free s t)))
+    (passing rowCount (held s t) (λ b. (less s t && (not tight || contains (w .dispensable) b)) || meets (inPlace tight turns w b) (free s t)))
 
 -- With two switches or more to spare the step alone says which. The units that some set has that it allows: all that may be on, if there is room for
 -- one more than must be, or those that must.
@@ -177,9 +177,9 @@ unfoldable pub offAt : Bool → ℕ → ℕ → List Limits → List ℕ → ℕ
 offAt tight us start ss plan i =
     offWord tight us (stepAt ss i) (setAt start plan (suc i)) (rowsAt start ss plan (suc i)) (laterAt start ss plan (suc i))
 
--- the same with `spare` switches to spare
-unfoldable pub onSpared : ℕ → ℕ → List Limits → List ℕ → ℕ → ℕ
-onSpared spare start ss plan i = cond (ltb 1 spare) (ampleOn (stepAt ss i)) (onAt (eqb spare 0) start ss plan i)
+-- the same with `slack` switches to spare
+unfoldable pub onBySlack : ℕ → ℕ → List Limits → List ℕ → ℕ → ℕ
+onBySlack slack start ss plan i = cond (ltb 1 slack) (ampleOn (stepAt ss i)) (onAt (eqb slack 0) start ss plan i)
 
-unfoldable pub offSpared : ℕ → ℕ → ℕ → List Limits → List ℕ → ℕ → ℕ
-offSpared us spare start ss plan i = cond (ltb 1 spare) (ampleOff us (stepAt ss i)) (offAt (eqb spare 0) us start ss plan i)
+unfoldable pub offBySlack : ℕ → ℕ → ℕ → List Limits → List ℕ → ℕ → ℕ
+offBySlack us slack start ss plan i = cond (ltb 1 slack) (ampleOff us (stepAt ss i)) (offAt (eqb slack 0) us start ss plan i)

@@ -64,7 +64,7 @@ unfolding inPlace
 returns c =
     let a = c .before .before .before .before .before .before .before .before .before .before .before .before .before .before .before .before .before .before .before .before .before .args in
     let x = a .x in
-    let w = laterIn (a .sides .saves) (a .sides .spared) (now (a .even)) (now (a .gain)) in
+    let w = laterIn (a .sides .saves) (a .sides .dispensable) (now (a .even)) (now (a .gain)) in
     let turns = rowsIn (now (a .rows)) (a .at) in
     let free = c .before .before .before .before .before .before .before .before .before .before .before .before .before .before .before .before .difference .ensures in
     let held = c .before .before .before .before .before .before .before .before .before .before .before .before .before .before .before .difference2 in

@@ -11,7 +11,7 @@ use Rattle.tables.specs.Places.{laterIn}
 use Rattle.tables.specs.Tables.{held, free, new, more, less}
 use Rattle.backward.specs.declared.rows.Back.{Back}
 use Rattle.backward.proofs.Finding.{row-first}
-use Rattle.backward.proofs.Returning.{Common, saves-back, spared-back, even-back, gain-back}
+use Rattle.backward.proofs.Returning.{Common, saves-back, dispensable-back, even-back, gain-back}
 use Rattle.backward.proofs.step_back.Statement.{statement}
 use Rattle.backward.proofs.step_back.Tie as tie
 
@@ -79,7 +79,7 @@ returns c =
     let s = a .x .limits in
     let p = a .x .before in
     let t = a .x .after in
-    let w = laterIn (a .sides .saves) (a .sides .spared) (now (a .even)) (now (a .gain)) in
+    let w = laterIn (a .sides .saves) (a .sides .dispensable) (now (a .even)) (now (a .gain)) in
     let apart = c .before .before .before .before .before .before .before .before .before .before .before .before .before .before .before .before .before .before .before .before .before .before .before .before .before .difference in
     let hold = c .before .before .before .before .before .before .before .before .before .before .before .before .before .before .before .before .before .before .before .before .before .before .before .before .difference2 in
     let enter = c .before .before .before .before .before .before .before .before .before .before .before .before .before .before .before .before .before .before .before .before .before .before .before .difference3 in
@@ -87,21 +87,21 @@ returns c =
     let join = c .before .before .before .before .before .before .before .before .before .before .before .before .before .before .before .before .before .before .before .before .choose in
     let found = c .before .before .before .before .before .before .before .before .before .before .before .before .before .before .find-savings .ensures in
     let save = c .before .before .before .before .before .before .before .before .before .before .before .union2 in
-    let spare = c .before .before .before .before .before .before .before .union4 in
+    let made = c .before .before .before .before .before .before .before .union4 in
     let turned = c .before .before .before .before .turn-back .ensures in
     let joining-is = join .ensures ∙ ap (λ (x : ℕ). cond (ltb x (s .greatest)) (w .saves) 0) many in
-    let loose-is = c .before .before .before .before .before .before .before .before .before .before .before .before .before .before .before .before .before .before .choose2 .ensures ∙ ap (λ (x : ℕ). cond (ltb (s .least) x) (w .spared) 0) many in
+    let loose-is = c .before .before .before .before .before .before .before .before .before .before .before .before .before .before .before .before .before .before .choose2 .ensures ∙ ap (λ (x : ℕ). cond (ltb (s .least) x) (w .dispensable) 0) many in
     let owned-is = c .before .before .before .before .before .before .before .before .before .before .before .before .before .before .before .intersection .ensures ∙ ap (λ (x : ℕ). intersection x p) (apart .ensures) in
     let joined = c .before .before .before .before .before .before .before .before .before .before .before .before .before .union .ensures ∙ ap (union (join .result)) (found .0) in
     let saves =
     save .ensures ∙ ap₂ union (enter .ensures) (c .before .before .before .before .before .before .before .before .before .before .before .before .intersection2 .ensures ∙ ap (intersection (apart .result)) joined)
     ∙ saves-back s p t w (hold .ensures) joining-is (apart .ensures) in
-    let spared =
-    spare .ensures ∙ ap₂ union (c .before .before .before .before .before .before .before .before .before .before .difference4 .ensures) (c .before .before .before .before .before .before .before .before .union3 .ensures ∙ ap₂ union (c .before .before .before .before .before .before .before .before .before .intersection3 .ensures) (found .1))
-    ∙ spared-back s p t w (omega (arith, hold .ok)) (hold .ensures) loose-is owned-is (apart .ensures) in
+    let dispensable =
+    made .ensures ∙ ap₂ union (c .before .before .before .before .before .before .before .before .before .before .difference4 .ensures) (c .before .before .before .before .before .before .before .before .union3 .ensures ∙ ap₂ union (c .before .before .before .before .before .before .before .before .before .intersection3 .ensures) (found .1))
+    ∙ dispensable-back s p t w (omega (arith, hold .ok)) (hold .ensures) loose-is owned-is (apart .ensures) in
     let back : Back = record {
       saves = save .result;
-      spared = spare .result;
+      dispensable = made .result;
       held = hold .result;
       on = t;
       new = enter .result;
@@ -109,7 +109,7 @@ returns c =
     } in
     let common : Common s p t w back = record {
       saves = saves;
-      spared = spared;
+      dispensable = dispensable;
       held = hold .ensures;
       on = refl;
       new = enter .ensures;
@@ -117,7 +117,7 @@ returns c =
     } in (
       saves,
       (
-        spared,
+        dispensable,
         (
           λ b h. turned .0 b h ∙ even-back common b (row-first (now (a .even)) b),
           λ b h. turned .1 b h ∙ gain-back common b (row-first (now (a .gain)) b),

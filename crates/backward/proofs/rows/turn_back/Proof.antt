@@ -12,8 +12,8 @@ use Rattle.backward.proofs.rows.turn_back.Tie as tie
 
 abbrev Inv-loop : tie.InvT-loop
 Inv-loop even₀ gain₀ back set left₀ even gain left =
-    TurnedBack even₀ even (evenRow (back .saves) (back .spared) (back .held) (back .free)) set left
-    × (TurnedBack gain₀ gain (gainRow (back .saves) (back .spared) (back .held) (back .free) (back .on) (back .new)) set left × (left < 2 ^ 64))
+    TurnedBack even₀ even (evenRow (back .saves) (back .dispensable) (back .held) (back .free)) set left
+    × (TurnedBack gain₀ gain (gainRow (back .saves) (back .dispensable) (back .held) (back .free) (back .on) (back .new)) set left × (left < 2 ^ 64))
 
 abbrev μ-loop : tie.MeasureT-loop
 μ-loop even₀ gain₀ back set left₀ even gain left = size left

@@ -10,7 +10,7 @@ use Rattle.chart.proofs.scarce.back_block.Tie as tie
 
 abbrev Inv-loop : tie.InvT-loop
 Inv-loop steps plan start tight us first last rows even₀ gain₀ on₀ off₀ s₀ i₀ even gain on off s i =
-    Backed start (stepsIn steps) plan tight us first last i (s .saves) (s .spared) even gain on₀ on off₀ off
+    Backed start (stepsIn steps) plan tight us first last i (s .saves) (s .dispensable) even gain on₀ on off₀ off
 
 abbrev μ-loop : tie.MeasureT-loop
 μ-loop steps plan start tight us first last rows even₀ gain₀ on₀ off₀ s₀ i₀ even gain on off s i = i - first
@@ -94,7 +94,7 @@ loop-again c =
     let b = c .before .before .before .before .step-back in
     backed-on (p .1 .1 .0) (p .1 .0) (l .inv) j (omega arith) (omega arith) (x .result) (x .ensures) (w .result .on) (w .result .off)
     (on .result) (off .result) (w .ensures .0) (w .ensures .1) (on .ensures) (off .ensures)
-    (b .result .saves) (b .result .spared) (b .last .1 .1 .0) (b .last .1 .1 .1 .0) (omega (arith, b .kept)) (omega (arith, b .kept)) (b .ensures .0)
+    (b .result .saves) (b .result .dispensable) (b .last .1 .1 .0) (b .last .1 .1 .1 .0) (omega (arith, b .kept)) (omega (arith, b .kept)) (b .ensures .0)
     (b .ensures .1 .0) (b .ensures .1 .1 .0) (b .ensures .1 .1 .1)
 
 same-length : tie.Need-same-length Inv-loop μ-loop

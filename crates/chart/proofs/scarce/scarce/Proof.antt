@@ -15,27 +15,27 @@ use Rattle.chart.proofs.scarce.scarce.Statement.{statement}
 use Rattle.chart.proofs.scarce.scarce.Tie as tie
 
 abbrev Inv-loop : tie.InvT-loop
-Inv-loop steps plan start tight us on₀ off₀ rows₀ marks even₀ gain₀ sides₀ last₀ on off rows even gain sides last =
-    Backed start (stepsIn steps) plan tight us 0 (length (stepsIn steps)) last (sides .saves) (sides .spared) even gain on₀ on off₀ off
+Inv-loop steps plan start tight us on₀ off₀ rows₀ checkpoints even₀ gain₀ sides₀ last₀ on off rows even gain sides last =
+    Backed start (stepsIn steps) plan tight us 0 (length (stepsIn steps)) last (sides .saves) (sides .dispensable) even gain on₀ on off₀ off
     × (length rows ≡ blockWords)
 
 abbrev μ-loop : tie.MeasureT-loop
-μ-loop steps plan start tight us on₀ off₀ rows₀ marks even₀ gain₀ sides₀ last₀ on off rows even gain sides last = last
+μ-loop steps plan start tight us on₀ off₀ rows₀ checkpoints even₀ gain₀ sides₀ last₀ on off rows even gain sides last = last
 
-slice-aggregate-mark : tie.Need-slice-aggregate-mark Inv-loop μ-loop
-slice-aggregate-mark c = search needs
+slice-aggregate-checkpoint : tie.Need-slice-aggregate-checkpoint Inv-loop μ-loop
+slice-aggregate-checkpoint c = search needs
 
-slice-aggregate-mark-2 : tie.Need-slice-aggregate-mark-2 Inv-loop μ-loop
-slice-aggregate-mark-2 c = search needs
+slice-aggregate-checkpoint-2 : tie.Need-slice-aggregate-checkpoint-2 Inv-loop μ-loop
+slice-aggregate-checkpoint-2 c = search needs
 
-mark-requires : tie.Need-mark-requires Inv-loop μ-loop
-mark-requires c κs = search needs
+checkpoint-requires : tie.Need-checkpoint-requires Inv-loop μ-loop
+checkpoint-requires c κs = search needs
 
 loop-holds : tie.Need-loop-holds Inv-loop μ-loop
 loop-holds c =
     let p = c .before .before .before .before .before .before .before .before .before .pre in
     let n = length (stepsIn (now (c .before .before .before .before .before .before .before .before .before .args .steps))) in
-    (rw (p .1 .0) (blocks-begun n (omega arith)), omega (arith, c .before .before .mark .kept, length-replicate {A = ℕ} blockWords 0))
+    (rw (p .1 .0) (blocks-begun n (omega arith)), omega (arith, c .before .before .checkpoint .kept, length-replicate {A = ℕ} blockWords 0))
 
 sub-k : tie.Need-sub-k Inv-loop μ-loop
 sub-k c = search needs
@@ -65,7 +65,7 @@ turn-block-requires c κs =
     let p = c .before .before .before .before .before .before .before .before .before .before .before .before .before .before .before .before .pre in
     let l = c .before .before .before .before .before .before .loop in
     let k = (l .last - 1) / blockSize in
-    let marks = c .before .before .before .before .before .before .before .before .before .mark in
+    let checkpoints = c .before .before .before .before .before .before .before .before .before .checkpoint in
     let in-range = c .before .before .before .before .before .loop-test .taken in
     let rows = c .before .before .copy-rows in (
       p .0,
@@ -79,8 +79,8 @@ turn-block-requires c κs =
               omega (arith, l .inv .0 .below, p .1 .0),
               (
                 omega (arith, rows .kept, l .inv .1),
-                kept-copied (a .start) ss (now (a .plan)) (blockSize * k) (marks .last .1 .1 .1 .1 .0) (rows .last .1 .1 .0) (rowCount * k) 0 (rows .ensures .0)
-                    (marks .ensures k (omega (arith, l .inv .0 .below, p .1 .0))),
+                kept-copied (a .start) ss (now (a .plan)) (blockSize * k) (checkpoints .last .1 .1 .1 .1 .0) (rows .last .1 .1 .0) (rowCount * k) 0 (rows .ensures .0)
+                    (checkpoints .ensures k (omega (arith, l .inv .0 .below, p .1 .0))),
               ),
             ),
           ),
@@ -158,9 +158,9 @@ scarce-spec =
     (tie.spec
     Inv-loop
     μ-loop
-    slice-aggregate-mark
-    slice-aggregate-mark-2
-    mark-requires
+    slice-aggregate-checkpoint
+    slice-aggregate-checkpoint-2
+    checkpoint-requires
     loop-holds
     sub-k
     slice-aggregate-copy-rows

@@ -43,8 +43,8 @@ returns c =
     let ss = stepsIn (now (a .steps)) in
     let plan = now (a .plan) in
     let written = c .before .before .before .before .draw-chart .ensures in (
-      on-drawn (a .d) (a .spare) (a .start) ss (p .1 .0) (p .1 .1 .0) (p .1 .1 .1 .0) plan (p .1 .1 .1 .1 .0) (now (a .on)) (rooms .0) (c .before .before .before .before .before .before .before .before .before .before .before .before .before .clear .ensures) (written .0),
-      off-drawn (a .d) (a .spare) (a .start) ss (p .1 .0) (p .1 .1 .0) (p .1 .1 .1 .0) plan (p .1 .1 .1 .1 .0) (now (a .off)) (rooms .1) (c .before .before .before .before .before .before .before .before .before .clear2 .ensures)
+      on-drawn (a .d) (a .slack) (a .start) ss (p .1 .0) (p .1 .1 .0) (p .1 .1 .1 .0) plan (p .1 .1 .1 .1 .0) (now (a .on)) (rooms .0) (c .before .before .before .before .before .before .before .before .before .before .before .before .before .clear .ensures) (written .0),
+      off-drawn (a .d) (a .slack) (a .start) ss (p .1 .0) (p .1 .1 .0) (p .1 .1 .1 .0) plan (p .1 .1 .1 .1 .0) (now (a .off)) (rooms .1) (c .before .before .before .before .before .before .before .before .before .clear2 .ensures)
           (c .before .before .before .before .before .before .before .before .before .before .before .before .before .before .before .units-below .result) (c .before .before .before .before .before .before .before .before .before .before .before .before .before .before .before .units-below .ensures) (written .1),
     )
 

@@ -99,9 +99,9 @@ returns-2 c =
     let off = now (k .args .off) in
     let made = c .before .before .before .before .before .before .before .before .before .before .before .before .before .before .before .before .before .before .before .plan-read .ensures in
     let within = c .before .before .before .before .before .before .before .before .before .before .before .before .before .if1 .left in
-    let spare : total (startOf s) (supportOn s) + (k .args .x .header .bound - c .before .before .before .before .before .before .before .before .before .before .before .before .before .before .before .before .before .before .before .plan-read .result) ≡ boundOf s = omega (arith, made .1 .1, bound-is s e, within) in
+    let slack : total (startOf s) (supportOn s) + (k .args .x .header .bound - c .before .before .before .before .before .before .before .before .before .before .before .before .before .before .before .before .before .before .before .plan-read .result) ≡ boundOf s = omega (arith, made .1 .1, bound-is s e, within) in
     let drawn =
-    rw (lent-words s e (now (k .args .rows)) (made .0) (k .pre .1 .0), lent-plan s e (now (k .args .sets)) (made .1 .0) (k .pre .1 .1 .0), rows-are s e, start-is s e, units-are s e, spare)
+    rw (lent-words s e (now (k .args .rows)) (made .0) (k .pre .1 .0), lent-plan s e (now (k .args .sets)) (made .1 .0) (k .pre .1 .1 .0), rows-are s e, start-is s e, units-are s e, slack)
     at (c .before .before .before .before .draw-whole .ensures) in
     (λ i. (fullReply (made .1 .1 i) 0, ((drawn .0 ∙ sets-first (onWords s) on (omega (arith, words-length s true, many-steps s e, k .pre .1 .1 .1 .0))) i, (drawn .1 ∙ sets-first (offWords s) off (omega (arith, words-length s false, many-steps s e, k .pre .1 .1 .1 .1))) i)))
     ∙ ap (charted (startOf s) (onWords s) (offWords s) on off) (in-bound s e (omega (arith, made .1 .1, bound-is s e, within)) (Given (supportOn s)))

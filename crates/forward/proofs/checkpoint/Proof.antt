@@ -1,4 +1,4 @@
--- `forward::mark` meets its contract. The loop's invariant: the rows before each block stand up to the k-th block.
+-- `forward::checkpoint` meets its contract. The loop's invariant: the rows before each block stand up to the k-th block.
 use mathlib.Core.Path.{_≡_, refl}
 use Prim.Native.Nat.{_+_, _*_, _-_, _≤_, _<_}
 use native.Mathlib.Omega.{arith}
@@ -7,16 +7,16 @@ use lib.ListN.{length}
 use Rattle.plans.specs.Rows.{stepsIn}
 use Rattle.tables.specs.Tables.{rowCount}
 use Rattle.forward.specs.Kept.{blockSize}
-use Rattle.forward.proofs.Blocks.{MarkedTo, marks-begun, marks-on, kept-copied}
-use Rattle.forward.proofs.mark.Statement.{statement}
-use Rattle.forward.proofs.mark.Tie as tie
+use Rattle.forward.proofs.Blocks.{CheckpointsTo, checkpoints-begun, checkpoints-on, kept-copied}
+use Rattle.forward.proofs.checkpoint.Statement.{statement}
+use Rattle.forward.proofs.checkpoint.Tie as tie
 
 abbrev Inv-loop : tie.InvT-loop
-Inv-loop steps plan start rows₀ marks₀ k₀ rows marks k =
-    (k ≤ 16) × ((length rows ≡ length rows₀) × ((length marks ≡ length marks₀) × MarkedTo start (stepsIn steps) plan k marks))
+Inv-loop steps plan start rows₀ checkpoints₀ k₀ rows checkpoints k =
+    (k ≤ 16) × ((length rows ≡ length rows₀) × ((length checkpoints ≡ length checkpoints₀) × CheckpointsTo start (stepsIn steps) plan k checkpoints))
 
 abbrev μ-loop : tie.MeasureT-loop
-μ-loop steps plan start rows₀ marks₀ k₀ rows marks k = length plan - k
+μ-loop steps plan start rows₀ checkpoints₀ k₀ rows checkpoints k = length plan - k
 
 -- there are sixteen blocks at the most
 small : (c : tie.In-loop Inv-loop μ-loop) → c .before .loop .k < 16
@@ -25,7 +25,7 @@ small c = omega (arith, c .loop-test .taken, c .before .before .before .before .
 loop-holds : tie.Need-loop-holds Inv-loop μ-loop
 loop-holds c =
     let a = c .before .before .before .before .args in
-    (omega arith, (refl, (refl, marks-begun (a .start) (stepsIn (now (a .steps))) (now (a .plan)) (now (a .marks)))))
+    (omega arith, (refl, (refl, checkpoints-begun (a .start) (stepsIn (now (a .steps))) (now (a .plan)) (now (a .checkpoints)))))
 
 mul-loop : tie.Need-mul-loop Inv-loop μ-loop
 mul-loop c = omega (arith, c .loop .inv .0)
@@ -68,7 +68,7 @@ turn-block-requires c κs =
               omega (arith, c .before .before .before .before .before .before .loop-test .taken),
               (
                 omega (arith, copy .kept, l .inv .1 .0, p .1 .1 .0),
-                kept-copied (a .start) (stepsIn (now (a .steps))) (now (a .plan)) (blockSize * l .k) (l .marks) (copy .last .1 .1 .0) (rowCount * l .k) 0
+                kept-copied (a .start) (stepsIn (now (a .steps))) (now (a .plan)) (blockSize * l .k) (l .checkpoints) (copy .last .1 .1 .0) (rowCount * l .k) 0
                     (copy .ensures .0) (l .inv .1 .1 .1 (l .k) (omega arith)),
               ),
             ),
@@ -112,7 +112,7 @@ loop-again c =
         omega (arith, block .kept, c .before .before .before .before .before .before .before .before .before .before .before .copy-rows .kept, l .inv .1 .0),
         (
           omega (arith, copy .kept, l .inv .1 .1 .0),
-          marks-on (a .start) ss (now (a .plan)) (l .k) (l .marks) (copy .last .1 .1 .0) (l .inv .1 .1 .1) (copy .ensures .1)
+          checkpoints-on (a .start) ss (now (a .plan)) (l .k) (l .checkpoints) (copy .last .1 .1 .0) (l .inv .1 .1 .1) (copy .ensures .1)
               (kept-copied (a .start) ss (now (a .plan)) (blockSize * l .k + blockSize) (block .last .1 .1 .1 .1 .1 .0) (copy .last .1 .1 .0)
               (rowCount * blockSize) (rowCount * l .k + rowCount) (copy .ensures .0) (block .ensures blockSize (omega arith))),
         ),
@@ -128,8 +128,8 @@ same-length-2 c = c .before .loop .inv .1 .1 .0
 returns : tie.Need-returns Inv-loop μ-loop
 returns c = λ k h. c .before .loop .inv .1 .1 .1 k (omega (arith, c .loop-test .left))
 
-pub mark-spec : {M : Type 1} → statement M
-mark-spec =
+pub checkpoint-spec : {M : Type 1} → statement M
+checkpoint-spec =
     tie.close
     (tie.spec
     Inv-loop

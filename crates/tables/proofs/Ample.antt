@@ -1,4 +1,4 @@
--- Where the bound leaves two switches or more to spare, the words `ampleOn` and `ampleOff` of a step are exact (`spare-on`, `spare-off`). For then a unit can
+-- Where the bound leaves two switches or more to spare, the words `ampleOn` and `ampleOff` of a step are exact (`ample-on`, `ample-off`). For then a unit can
 -- be on, or off, in a step exactly if the step allows a set that has it so. With any unit that may be on it allows one, if there is room for one more
 -- than the lower set has, and without any unit that need not be on, if one less than the upper set has is enough (`some-on`, `some-off`).
 use mathlib.Core.Path.{_≡_, refl}
@@ -114,16 +114,16 @@ module _ (bound start : ℕ) (ss : List Limits) (f : Satisfiable ss) (h : total 
       (λ e. plan (some e), λ e. has (sets e))
 
   -- so the words have the units that some plan has so
-  pub spare-on : (u : ℕ) → (bit (ampleOn (stepAt ss i)) u ≡ 1) ↔ SomePlan bound start ss i (Shows true u)
-  spare-on u = some-plan true u (ampleOn (stepAt ss i)) (some-on u (stepAt ss i) (feasible-at ss i l f))
+  pub ample-on : (u : ℕ) → (bit (ampleOn (stepAt ss i)) u ≡ 1) ↔ SomePlan bound start ss i (Shows true u)
+  ample-on u = some-plan true u (ampleOn (stepAt ss i)) (some-on u (stepAt ss i) (feasible-at ss i l f))
 
-  pub spare-off : (d u : ℕ) → u < d → (bit (ampleOff (2 ^ d - 1) (stepAt ss i)) u ≡ 1) ↔ SomePlan bound start ss i (Shows false u)
-  spare-off d u k = some-plan false u (ampleOff (2 ^ d - 1) (stepAt ss i)) (some-off u (stepAt ss i) (feasible-at ss i l f) d k)
+  pub ample-off : (d u : ℕ) → u < d → (bit (ampleOff (2 ^ d - 1) (stepAt ss i)) u ≡ 1) ↔ SomePlan bound start ss i (Shows false u)
+  ample-off d u k = some-plan false u (ampleOff (2 ^ d - 1) (stepAt ss i)) (some-off u (stepAt ss i) (feasible-at ss i l f) d k)
 
 -- no unit from d up is among those that can be off
-pub spare-beyond : (d u : ℕ) (s : Limits) → d ≤ u → bit (ampleOff (2 ^ d - 1) s) u ≡ 0
+pub ample-beyond : (d u : ℕ) (s : Limits) → d ≤ u → bit (ampleOff (2 ^ d - 1) s) u ≡ 0
 unfolding ampleOff
-spare-beyond d u s h =
+ample-beyond d u s h =
     omega (
       arith,
       bit-difference (2 ^ d - 1) (cond (ltb (s .least) (size (s .upper))) (s .lower) (s .upper)) u,
