@@ -1,20 +1,24 @@
--- Sheets that agree are read the same but for tags: the same causes of refusal hold, and the campaigns differ in tags alone.
+-- Sheets that agree are read the same but for tags. The walk visits the same records of both, one after the other (`same-links`): where the last link
+-- leads out of the sheet or back, both get the same refusal, and else their steps differ in tags alone.
 use mathlib.Core.Path.{_≡_, refl, sym, ap, ap₂, _∙_}
-use mathlib.Core.Bool.{Bool, true, false, cond, _||_, or-true}
 use mathlib.Core.List.{List, [], _∷_, _++_, map}
 use Prim.Native.Nat.{ℕ, zero, suc, _+_, _*_, _≤_, _<_, min}
 use native.Mathlib.Nat.{add-assoc, add-zero, zero-add}
+use native.Mathlib.Decide.{ℕ-discrete}
 use native.Mathlib.Omega.{arith}
-use lib.Dec.{eqb}
-use lib.ListN.{length-take, take}
+use lib.ListN.{length, length-take, take}
 use lib.Seq.{ext-getD, getD-take}
-use borrow.Author.Tests.{eq-eqb, eqb-false}
+use borrow.Author.Tests.{ltb-false}
 use Rattle.format.specs.declared.Step.{Step}
-use Rattle.format.specs.Agreement.{Agree, untagged}
-use Rattle.format.specs.Chain.{following, chainOf, isIn, linkCauses}
-use Rattle.format.specs.Format.{headerSize, recordOffset, lettersOf, unitsOf, recordsOf, boundOf, startOf, nextOf, stepOf}
+use Rattle.format.specs.Agreement.{Visited, begun, onward, Agree, untagged, withoutTags, readUntagged}
+use Rattle.format.specs.Answer.{Answer, Given, unless}
+use Rattle.format.specs.Chain.{following, chainOf, linkCauses}
+use Rattle.format.specs.Format.{headerSize, editionAt, unitsAt, recordsAt, firstAt, boundAt, reservedAt, startAt, upperAt, leastAt, greatestAt, nextAt, tagAt, recordOffset, lettersOf, unitsOf, recordsOf, boundOf, startOf, nextOf, stepOf}
 use Rattle.format.specs.Numbers.{byteAt, u16At, u32At, u64At}
-use Rattle.format.specs.Reading.{formCauses, headerCauses, stepCauses, stepsCauses, recordsOn, stepsOf, readCauses}
+use Rattle.format.specs.Reading.{formCauses, headerCauses, stepCauses, stepsCauses, recordsOn, stepsOf, openCauses, readCauses, Campaign, campaignOf}
+use Rattle.format.proofs.Answers.{past-first}
+use Rattle.format.proofs.Chains.{follow-ends, follow-on}
+use Rattle.format.proofs.Readings.{open-staged, read-staged}
 use Rattle.format.proofs.Records.{next-first, next-after}
 
 -- ---- numbers at equal bytes are equal
@@ -40,13 +44,21 @@ module _ (s t : List ℕ) (base room : ℕ) (same : (i : ℕ) → i < room → b
 
 -- ---- a record whose bytes before the tag are equal
 
-module _ (s t : List ℕ) (j : ℕ) (same : (i : ℕ) → i < 20 → byteAt s (recordOffset j + i) ≡ byteAt t (recordOffset j + i)) where
+module _ (s t : List ℕ) (j : ℕ) (same : (i : ℕ) → i < tagAt → byteAt s (recordOffset j + i) ≡ byteAt t (recordOffset j + i)) where
   same-step : untagged (stepOf s j) ≡ untagged (stepOf t j)
   unfolding stepOf
   same-step =
-      let lower : u64At s (recordOffset j) ≡ u64At t (recordOffset j) =
-      ap (u64At s) (sym (add-zero (recordOffset j))) ∙ same-u64 s t (recordOffset j) 20 same 0 (omega arith) ∙ ap (u64At t) (add-zero (recordOffset j)) in
-      λ i. record { lower = lower i; upper = same-u64 s t (recordOffset j) 20 same 8 (omega arith) i; least = same 16 (omega arith) i; greatest = same 17 (omega arith) i; tag = 0 }
+      let at = recordOffset j in
+      let lower : u64At s at ≡ u64At t at =
+      ap (u64At s) (sym (add-zero at)) ∙ same-u64 s t at tagAt same 0 (omega arith) ∙ ap (u64At t) (add-zero at) in
+      λ i. record { lower = lower i; upper = same-u64 s t at tagAt same upperAt (omega arith) i; least = same leastAt (omega arith) i; greatest = same greatestAt (omega arith) i; tag = 0 }
+
+-- ---- tags play no part in the causes
+
+untagged-causes : (d i : ℕ) (xs : List Step) → stepsCauses d i (map untagged xs) ≡ stepsCauses d i xs
+unfolding stepsCauses
+untagged-causes d i [] = refl
+untagged-causes d i (x ∷ xs) = ap (λ cs. stepCauses d i x ++ cs) (untagged-causes d (i + 1) xs)
 
 -- ---- agreement
 
@@ -60,82 +72,90 @@ module _ (s t : List ℕ) (g : Agree s t) where
       ext-getD 0 (take 4 s) (take 4 t) (length-take 4 s ∙ ap (min 4) (g .lengths) ∙ sym (length-take 4 t))
       (λ i h. getD-take 4 s i 0 (omega (arith, length-take 4 s)) ∙ g .headers i (omega (arith, length-take 4 s)) ∙ sym (getD-take 4 t i 0 (omega (arith, length-take 4 s))))
 
+  same-units : unitsOf s ≡ unitsOf t
+  same-units = g .headers unitsAt (omega arith)
+
   same-records : recordsOf s ≡ recordsOf t
-  same-records = same-u16 s t 0 headerSize heads 6 (omega arith)
+  same-records = same-u16 s t 0 headerSize heads recordsAt (omega arith)
 
-  same-form : formCauses s ≡ formCauses t
-  same-form = rw (g .lengths, same-letters, g .headers 4 (omega arith))
+  same-bound : boundOf s ≡ boundOf t
+  same-bound = same-u16 s t 0 headerSize heads boundAt (omega arith)
 
-  same-header : headerCauses s ≡ headerCauses t
-  same-header =
-      rw (g .lengths, g .headers 5 (omega arith), same-records, same-u32 s t 0 headerSize heads 12 (omega arith), same-u64 s t 0 headerSize heads 16 (omega arith))
+  same-start : startOf s ≡ startOf t
+  same-start = same-u64 s t 0 headerSize heads startAt (omega arith)
 
--- the records that follow a holder whose number of the next one is equal, as long as they all agree
-same-following : (s t : List ℕ) (k holder : ℕ) → nextOf s holder ≡ nextOf t holder
-    → ((j : ℕ) → isIn j (following k s holder) ≡ true → (i : ℕ) → i < 20 → byteAt s (recordOffset j + i) ≡ byteAt t (recordOffset j + i))
-    → following k s holder ≡ following k t holder
-unfolding following isIn
-same-following s t zero holder e h = refl
-same-following s t (suc k) holder e h =
-    rw (← e) (go (eqb (nextOf s holder) 0) refl h (same-following s t k (nextOf s holder)))
-  where
-    next : ℕ
-    next = nextOf s holder
+  same-form : formCauses s ++ headerCauses s ≡ formCauses t ++ headerCauses t
+  same-form =
+      rw (g .lengths, same-letters, g .headers editionAt (omega arith), same-units, same-records, same-u32 s t 0 headerSize heads reservedAt (omega arith), same-start)
 
-    go : (x : Bool) → eqb next 0 ≡ x
-        → ((j : ℕ) → isIn j (cond x [] (next ∷ following k s next)) ≡ true → (i : ℕ) → i < 20 → byteAt s (recordOffset j + i) ≡ byteAt t (recordOffset j + i))
-        → (nextOf s next ≡ nextOf t next
-        → ((j : ℕ) → isIn j (following k s next) ≡ true → (i : ℕ) → i < 20 → byteAt s (recordOffset j + i) ≡ byteAt t (recordOffset j + i))
-        → following k s next ≡ following k t next)
-        → cond x [] (next ∷ following k s next) ≡ cond x [] (next ∷ following k t next)
-    go true q f ih = refl
-    go false q f ih =
-        let some = eqb-false next 0 q in
-        let here : (i : ℕ) → i < 20 → byteAt s (recordOffset next + i) ≡ byteAt t (recordOffset next + i) =
-        f next (ap (λ b. b || isIn next (following k s next)) (eq-eqb next next refl)) in
-        ap (λ js. next ∷ js)
-        (ih (next-after s next some ∙ same-u16 s t (recordOffset next) 20 here 18 (omega arith) ∙ sym (next-after t next some))
-        (λ j m. f j (ap (λ b. eqb j next || b) m ∙ or-true (eqb j next))))
+  -- a record that the walk visits names the same next one in both
+  same-next : {j : ℕ} → Visited s j → nextOf s j ≡ nextOf t j
+  same-next {j} v = go (ℕ-discrete j 0)
+    where
+      go : Dec (j ≡ 0) → nextOf s j ≡ nextOf t j
+      go (yes e) = next-first s j e ∙ same-u16 s t 0 headerSize heads firstAt (omega arith) ∙ sym (next-first t j e)
+      go (no n) = next-after s j n ∙ same-u16 s t (recordOffset j) tagAt (g .records j (omega arith) v) nextAt (omega arith) ∙ sym (next-after t j n)
 
-same-steps : (s t : List ℕ) (on : List ℕ)
-    → ((j : ℕ) → isIn j on ≡ true → (i : ℕ) → i < 20 → byteAt s (recordOffset j + i) ≡ byteAt t (recordOffset j + i))
-    → map untagged (map (stepOf s) on) ≡ map untagged (map (stepOf t) on)
-unfolding isIn
-same-steps s t [] h = refl
-same-steps s t (j ∷ on) h =
-    ap₂ (λ x xs. x ∷ xs) (same-step s t j (h j (ap (λ b. b || isIn j on) (eq-eqb j j refl)))) (same-steps s t on (λ k m. h k (ap (λ b. eqb k j || b) m ∙ or-true (eqb k j))))
+  -- the steps of some records are the same but for tags
+  abbrev SameSteps : List ℕ → Type 0
+  SameSteps js = map untagged (map (stepOf s) js) ≡ map untagged (map (stepOf t) js)
 
--- tags play no part in the causes
-untagged-causes : (d i : ℕ) (xs : List Step) → stepsCauses d i (map untagged xs) ≡ stepsCauses d i xs
-unfolding stepsCauses
-untagged-causes d i [] = refl
-untagged-causes d i (x ∷ xs) = ap (λ cs. stepCauses d i x ++ cs) (untagged-causes d (i + 1) xs)
+  no-links : {A : Type 0} {ofS ofT : List ℕ → Answer A} → ((js : List ℕ) → SameSteps js → ofS js ≡ ofT js) → unless [] (ofS []) ≡ unless [] (ofT [])
+  no-links h = ap (unless []) (h [] refl)
 
-module _ (s t : List ℕ) (g : Agree s t) where
-  same-chain : recordsOn s ≡ recordsOn t
-  unfolding chainOf
-  same-chain =
-      same-following s t (suc (recordsOf s)) 0
-      (next-first s 0 refl ∙ same-u16 s t 0 headerSize (heads s t g) 8 (omega arith) ∙ sym (next-first t 0 refl)) (g .records)
-      ∙ ap (λ (r : ℕ). following (suc r) t 0) (same-records s t g)
+  -- The links from a visited record on are judged the same, and so is what is made of the records on the chain, `ofS` and `ofT`, if it is the same for
+  -- the same steps.
+  same-links : {A : Type 0} (r k : ℕ) (met : List ℕ) (holder : ℕ) (ofS ofT : List ℕ → Answer A) → r ≡ recordsOf s → Visited s holder
+      → ((js : List ℕ) → SameSteps js → ofS js ≡ ofT js)
+      → unless (linkCauses r met holder (following k s holder)) (ofS (following k s holder)) ≡ unless (linkCauses r met holder (following k t holder)) (ofT (following k t holder))
+  unfolding following linkCauses
+  same-links r zero met holder ofS ofT own v h = no-links h
+  same-links {A} r (suc k) met holder ofS ofT own v h =
+      go (ℕ-discrete next 0)
+      (λ w. same-links r k (met ++ (next ∷ [])) next (λ js. ofS (next ∷ js)) (λ js. ofT (next ∷ js)) own w)
+    where
+      next : ℕ
+      next = nextOf s holder
 
-  -- the steps differ in tags alone
-  pub same-untagged : map untagged (stepsOf s) ≡ map untagged (stepsOf t)
-  same-untagged = same-steps s t (recordsOn s) (g .records) ∙ ap (λ on. map untagged (map (stepOf t) on)) same-chain
+      judged : (List ℕ → Answer A) → List ℕ → Answer A
+      judged of js = unless (linkCauses r met holder js) (of js)
 
-  -- the same causes hold, with the same numbers and places
-  pub same-causes : readCauses s ≡ readCauses t
-  unfolding readCauses
-  same-causes =
-      ap₂ (λ x y. x ++ y)
-      (ap₂ (λ x y. x ++ y) (ap₂ (λ x y. x ++ y) (same-form s t g) (same-header s t g)) (ap₂ (λ (r : ℕ) on. linkCauses r [] 0 on) (same-records s t g) same-chain))
-      (sym (untagged-causes (unitsOf s) 1 (stepsOf s)) ∙ ap₂ (λ (d : ℕ) xs. stepsCauses d 1 xs) (g .headers 5 (omega arith)) same-untagged ∙ untagged-causes (unitsOf t) 1 (stepsOf t))
+      go : Dec (next ≡ 0)
+          → (Visited s next → ((js : List ℕ) → SameSteps js → ofS (next ∷ js) ≡ ofT (next ∷ js))
+          → unless (linkCauses r (met ++ (next ∷ [])) next (following k s next)) (ofS (next ∷ following k s next))
+          ≡ unless (linkCauses r (met ++ (next ∷ [])) next (following k t next)) (ofT (next ∷ following k t next)))
+          → judged ofS (following (suc k) s holder) ≡ judged ofT (following (suc k) t holder)
+      go (yes e) ih = ap (judged ofS) (follow-ends k s holder e) ∙ no-links h ∙ ap (judged ofT) (sym (follow-ends k t holder (sym (same-next v) ∙ e)))
+      go (no n) ih =
+          ap (judged ofS) (follow-on k s holder n)
+          ∙ past-first _ _ _ _ _ (λ in-range. past-first _ _ _ _ _ (λ new.
+          let w = onward v (omega (arith, ltb-false r next in-range)) in
+          ih w (λ js e. h (next ∷ js) (ap₂ (λ x xs. x ∷ xs) (same-step s t next (g .records next (omega arith) w)) e))))
+          ∙ ap (λ (m : ℕ). judged ofT (m ∷ following k t m)) (same-next v)
+          ∙ sym (ap (judged ofT) (follow-on k t holder (λ e. n (same-next v ∙ e))))
 
-  pub same-units : unitsOf s ≡ unitsOf t
-  same-units = g .headers 5 (omega arith)
+  -- so the one gets the refusal that the other gets, or says the same but for tags
+  pub same-read : readUntagged s ≡ readUntagged t
+  unfolding campaignOf chainOf
+  same-read =
+      staged s
+      ∙ ap₂ unless same-form
+      (same-links (recordsOf s) (suc (recordsOf s)) [] 0 (along s) (along t) refl begun (λ js e i. said (same-units i) (same-bound i) (same-start i) (e i))
+      ∙ ap (λ (r : ℕ). linked r t) same-records)
+      ∙ sym (staged t)
+    where
+      -- by the units, the bound, the start set and the steps without tags, if the chain has no fault
+      said : ℕ → ℕ → ℕ → List Step → Answer Campaign
+      said d bound start xs = unless (stepsCauses d 1 xs) (Given (record { units = d; bound = bound; start = start; steps = xs }))
 
-  pub same-bound : boundOf s ≡ boundOf t
-  same-bound = same-u16 s t 0 headerSize (heads s t g) 10 (omega arith)
+      along : List ℕ → List ℕ → Answer Campaign
+      along s js = said (unitsOf s) (boundOf s) (startOf s) (map untagged (map (stepOf s) js))
 
-  pub same-start : startOf s ≡ startOf t
-  same-start = same-u64 s t 0 headerSize (heads s t g) 16 (omega arith)
+      linked : ℕ → List ℕ → Answer Campaign
+      linked r s = unless (linkCauses r [] 0 (following (suc r) s 0)) (along s (following (suc r) s 0))
+
+      staged : (s : List ℕ) → readUntagged s ≡ unless (formCauses s ++ headerCauses s) (linked (recordsOf s) s)
+      staged s =
+          read-staged s (Given (withoutTags (campaignOf s)))
+          ∙ ap (λ cs. unless (openCauses s) (unless cs (Given (withoutTags (campaignOf s))))) (sym (untagged-causes (unitsOf s) 1 (stepsOf s)))
+          ∙ open-staged s (along s (recordsOn s))

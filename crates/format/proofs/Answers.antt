@@ -21,17 +21,6 @@ pub none-left : {A : Type 0} (a : Answer A) → a ≡ unless [] a
 unfolding unless
 none-left a = refl
 
--- what is alike of two answers is alike of them behind the same causes
-pub unless-alike : {A B : Type 0} (f : Answer A → B) (cs : List Cause) (a b : Answer A) → f a ≡ f b → f (unless cs a) ≡ f (unless cs b)
-unfolding unless
-unless-alike f [] a b e = e
-unless-alike f (c ∷ cs) a b e = go (c .holds) (unless-alike f cs a b e)
-  where
-    go : (t : Bool) → f (unless cs a) ≡ f (unless cs b)
-        → f (cond t (Refused (c .number) (c .place)) (unless cs a)) ≡ f (cond t (Refused (c .number) (c .place)) (unless cs b))
-    go true h = refl
-    go false h = h
-
 -- two answers with the same first cause are equal if they are where it does not hold
 pub past-first : {A : Type 0} (c : Cause) (cs ds : List Cause) (a b : Answer A) → (c .holds ≡ false → unless cs a ≡ unless ds b) → unless (c ∷ cs) a ≡ unless (c ∷ ds) b
 unfolding unless
@@ -96,6 +85,21 @@ all-passed (c ∷ cs) a e b = let p = passed-first c cs _ e in sym (passed-by c 
 
 pub unless-given : {A : Type 0} (cs : List Cause) (a : Answer A) {w : A} → unless cs a ≡ Given w → a ≡ Given w
 unless-given cs a e = sym (all-passed cs a e a) ∙ e
+
+-- What is made of two answers behind causes, by f and by g, is the same, if it is of each refusal, and of the answers themselves where the causes let the
+-- same value pass.
+pub unless-same : {A B R : Type 0} (f g : Answer A → R) (cs ds : List Cause) (a b : Answer A) (v w : B) → unless cs (Given v) ≡ unless ds (Given w)
+    → ((n p : ℕ) → f (Refused n p) ≡ g (Refused n p)) → (v ≡ w → f a ≡ g b) → f (unless cs a) ≡ g (unless ds b)
+unless-same {A} {B} f g cs ds a b v w e refusals values = go (unless cs (Given v)) refl
+  where
+    go : (x : Answer B) → unless cs (Given v) ≡ x → f (unless cs a) ≡ g (unless ds b)
+    go (Refused n p) h =
+        ap f (sym (refused-whatever cs v (sym h) a)) ∙ refusals n p ∙ ap g (refused-whatever ds w (sym h ∙ e) b)
+    go (Given x) h =
+        let k = sym e ∙ h in
+        ap f (all-passed cs (Given v) h a)
+        ∙ values (given-same (unless-given cs (Given v) h) ∙ sym (given-same (unless-given ds (Given w) k)))
+        ∙ ap g (sym (all-passed ds (Given w) k b))
 
 -- ---- which causes a list can give
 

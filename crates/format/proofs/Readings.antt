@@ -126,7 +126,7 @@ chain-within v s {h} g e = links-within v s (h .records) (g .whole) (suc (h .rec
 -- ---- the reader's stages
 
 -- the causes of header and chain, one after the other
-open-staged : {A : Type 0} (s : List ℕ) (a : Answer A)
+pub open-staged : {A : Type 0} (s : List ℕ) (a : Answer A)
     → unless (openCauses s) a ≡ unless (formCauses s ++ headerCauses s) (unless (linkCauses (recordsOf s) [] 0 (recordsOn s)) a)
 open-staged s a = unless-append (formCauses s ++ headerCauses s) (linkCauses (recordsOf s) [] 0 (recordsOn s)) a
 

@@ -1,21 +1,33 @@
--- Two sheets that agree in all that counts: they may differ in job tags and in the bytes of records off the chain.
-use Prim.Native.Nat.{ℕ, _+_, _<_}
+-- Two sheets that agree in all that counts: they may differ in job tags and in the bytes of records that the walk does not visit (spare records, in
+-- docs/FORMAT.md). `readUntagged` is what they then have in common.
+use Prim.Native.Nat.{ℕ, _+_, _≤_, _<_}
 use mathlib.Core.Path.{_≡_}
-use mathlib.Core.Bool.{true}
-use mathlib.Core.List.{List}
+use mathlib.Core.List.{List, map}
 use lib.ListN.{length}
 use Rattle.format.specs.declared.Step.{Step}
+use Rattle.format.specs.Answer.{Answer, Given, unless}
 use Rattle.format.specs.Numbers.{byteAt}
-use Rattle.format.specs.Format.{headerSize, tagAt, recordOffset}
-use Rattle.format.specs.Chain.{isIn}
-use Rattle.format.specs.Reading.{recordsOn}
+use Rattle.format.specs.Format.{headerSize, tagAt, recordOffset, recordsOf, nextOf}
+use Rattle.format.specs.Reading.{readCauses, Campaign, campaignOf}
 
--- Their lengths, their headers and, in each record on the chain of the first, the bytes before the tag are equal.
+-- The walk visits the header, which counts as record 0, and from each record that it visits the next one, if that is a record of the sheet.
+pub data Visited (s : List ℕ) : ℕ → Type 0 where
+  begun : Visited s 0
+  onward : {j : ℕ} → Visited s j → nextOf s j ≤ recordsOf s → Visited s (nextOf s j)
+
+-- Their lengths, their headers and, in each record that the walk along the first visits, the bytes before the tag are equal.
 pub record Agree (s t : List ℕ) : Type 0 where
   pub lengths : length s ≡ length t
   pub headers : (i : ℕ) → i < headerSize → byteAt s i ≡ byteAt t i
-  pub records : (j : ℕ) → isIn j (recordsOn s) ≡ true → (i : ℕ) → i < tagAt → byteAt s (recordOffset j + i) ≡ byteAt t (recordOffset j + i)
+  pub records : (j : ℕ) → 0 < j → Visited s j → (i : ℕ) → i < tagAt → byteAt s (recordOffset j + i) ≡ byteAt t (recordOffset j + i)
 
--- a step without its tag
+-- a step without its tag, and a campaign without tags
 abbrev pub untagged : Step → Step
 untagged x = record { lower = x .lower; upper = x .upper; least = x .least; greatest = x .greatest; tag = 0 }
+
+abbrev pub withoutTags : Campaign → Campaign
+withoutTags c = record { units = c .units; bound = c .bound; start = c .start; steps = map untagged (c .steps) }
+
+-- what a sheet says but for tags: one refusal of 1 to 7, or the campaign
+abbrev pub readUntagged : List ℕ → Answer Campaign
+readUntagged s = unless (readCauses s) (Given (withoutTags (campaignOf s)))

@@ -14,27 +14,26 @@ use Rattle.units.specs.Limits.{Feasible, hasFeasible}
 use Rattle.units.proofs.Limits.{some-feasible}
 use Rattle.plans.specs.Switch.{total}
 use Rattle.format.specs.declared.Step.{Step}
-use Rattle.format.specs.Agreement.{Agree, untagged}
+use Rattle.format.specs.Agreement.{Agree, untagged, readUntagged}
 use Rattle.format.specs.Answer.{Refused, Given, unless}
 use Rattle.format.specs.Chain.{following, chainOf, linkCauses}
 use Rattle.format.specs.Format.{boundOf, startOf}
 use Rattle.format.specs.Reading.{stepsOf, readCauses, campaignOf}
-use Rattle.format.proofs.Agreements.{same-causes, same-units, same-bound, same-start, same-untagged}
+use Rattle.format.proofs.Agreements.{same-read}
 use Rattle.format.proofs.Answers.{numbered-append, Numbered}
 use Rattle.format.proofs.Chains.{chain-is-long-enough}
 use Rattle.format.proofs.Readings.{numbered-read}
 use Rattle.promises.specs.Chart.{onWords, offWords, charted, warmChart}
 use Rattle.promises.specs.Common.{placesCauses, written, refusedReply, fullReply}
 use Rattle.promises.specs.Plan.{fewestOn, supportOn, boundCauses, planRefusals, planned, warmPlan}
-use Rattle.promises.specs.Statements.{Exact, Alike, Passes, Meets, FewestAndExact}
+use Rattle.promises.specs.Statements.{Exact, Passes, Meets, FewestAndExact}
 use Rattle.promises.specs.Steps.{stepsRefusals, stepsReply, stepsWritten, warmSteps}
 use Rattle.promises.specs.Verdict.{wordsCauses, verdictRefusals, accepts, judged, warmVerdict}
 use Rattle.promises.proofs.Charts.{words-length, words-cells, no-others}
 use Rattle.promises.proofs.Exactly.{exact}
-use Rattle.promises.proofs.Likeness.{alike-plan, alike-chart, alike-verdict}
+use Rattle.promises.proofs.Likeness.{alike-reply, alike-list, alike-plan, alike-chart, alike-verdict}
 use Rattle.promises.proofs.Plans.{plan-fewest, plan-length-on, over-bound, in-bound, plan-open}
 use Rattle.promises.proofs.Read.{passed}
-use Rattle.promises.proofs.Steps.{alike-answer, alike-reply, alike-written}
 use Rattle.promises.proofs.Verdicts.{verdict-given, accepts-exactly, turned-down}
 
 -- ---- demand 1
@@ -146,19 +145,15 @@ the-walk-ends s r more = chain-is-long-enough s r more
 
 -- ---- sheets that differ only in job tags and in records off the chain
 
--- They are alike in all that counts, and whatever is made of that is the same.
-pub agreeing-sheets : (s t : List ℕ) → Agree s t → Alike s t
-unfolding campaignOf
-agreeing-sheets s t g =
-    record { causes = same-causes s t g; units = same-units s t g; bound = same-bound s t g; start = same-start s t g; steps = same-untagged s t g }
+-- They get the same refusal of 1 to 7, or say the same but for tags, and whatever is made of that is the same.
+pub agreeing-sheets : (s t : List ℕ) → Agree s t → readUntagged s ≡ readUntagged t
+agreeing-sheets s t g = same-read s t g
 
 -- so `warm_steps` gives the same reply, and the same list but for tags
 pub agreeing-steps : (s t : List ℕ) (out : List Step) → Agree s t
     → (warmSteps s out .0 ≡ warmSteps t out .0) × (map untagged (warmSteps s out .1) ≡ map untagged (warmSteps t out .1))
 unfolding warmSteps
-agreeing-steps s t out g =
-    let a = agreeing-sheets s t g in
-    (alike-answer s t (length out) a stepsReply (alike-reply s t a), alike-answer s t (length out) a (λ x. map untagged (stepsWritten x out)) (alike-written s t out a))
+agreeing-steps s t out g = let e = agreeing-sheets s t g in (alike-reply s t e (length out), alike-list s t e out)
 
 -- and the others give the same in all
 pub agreeing-plan : (s t out : List ℕ) → Agree s t → warmPlan s out ≡ warmPlan t out

@@ -1,79 +1,135 @@
--- Sheets that are alike get the same plan, chart and verdict: all three are made from what is alike.
-use mathlib.Core.Path.{_≡_, sym, ap, _∙_}
+-- Sheets that are read the same but for tags get the same replies: each entry gives the reader's refusal, or else a reply that is made of the campaign
+-- without its tags.
+use mathlib.Core.Path.{_≡_, refl, sym, ap, ap₂, _∙_}
 use mathlib.Core.Bool.{cond, not, _&&_}
-use mathlib.Core.List.{List, [], _∷_, _++_, map, map-map}
+use mathlib.Core.List.{List, [], _∷_, _++_, map, map-map, map-append}
 use Prim.Native.Nat.{ℕ, min}
 use lib.Dec.{ltb, leb, eqb}
-use lib.ListN.{length}
-use Rattle.format.specs.Agreement.{untagged}
-use Rattle.format.specs.Answer.{Answer, Given, cause, unless}
-use Rattle.format.specs.Format.{startOf}
-use Rattle.format.specs.Reading.{stepsOf, readCauses, campaignOf}
+use lib.ListN.{length, length-map, drop}
+use Rattle.format.specs.declared.Step.{Step}
+use Rattle.format.specs.Agreement.{untagged, withoutTags, readUntagged}
+use Rattle.format.specs.Answer.{Answer, Refused, Given, cause, unless}
+use Rattle.format.specs.Format.{limitsOf, unitsOf, boundOf, startOf}
+use Rattle.format.specs.Reading.{stepsOf, readCauses, Campaign, campaignOf}
+use Rattle.format.proofs.Answers.{unless-same}
 use Rattle.plans.specs.Plans.{allows, isFeasible, fewest, canBeOn, canBeOff}
 use Rattle.plans.specs.Support.{findSupport}
 use Rattle.plans.specs.Switch.{total}
-use Rattle.format.specs.Format.{limitsOf}
 use Rattle.promises.specs.Common.{limitsOn, placesCauses, fullReply}
-use Rattle.promises.specs.Plan.{fewestOn, supportOn, boundCauses, planAnswer, planned, warmPlan}
+use Rattle.promises.specs.Plan.{fewestOn, supportOn, boundCauses, planned, warmPlan}
 use Rattle.promises.specs.Chart.{onWords, offWords, charted, warmChart}
-use Rattle.promises.specs.Verdict.{verdictRefusals, accepts, judged, warmVerdict}
-use Rattle.promises.specs.Statements.{Alike}
+use Rattle.promises.specs.Verdict.{wordsCauses, accepts, judged, warmVerdict}
+use Rattle.promises.specs.Steps.{stepsAnswer, stepsReply, stepsWritten}
 use Rattle.promises.proofs.Plans.{plan-staged}
-use Rattle.promises.proofs.Steps.{alike-many}
+use Rattle.promises.proofs.Steps.{steps-staged}
+use Rattle.promises.proofs.Verdicts.{verdict-staged}
 
-module _ (s t : List ℕ) (a : Alike s t) where
-  alike-limits : limitsOn s ≡ limitsOn t
-  alike-limits = sym (map-map limitsOf untagged (stepsOf s)) ∙ ap (map limitsOf) (a .steps) ∙ map-map limitsOf untagged (stepsOf t)
+-- ---- what is made of campaigns that are the same but for tags
 
-  alike-start : startOf s ≡ startOf t
+module _ (s t : List ℕ) (a : withoutTags (campaignOf s) ≡ withoutTags (campaignOf t)) where
+  same-units : unitsOf s ≡ unitsOf t
   unfolding campaignOf
-  alike-start = a .start
+  same-units = λ i. a i .units
 
-  alike-fewest : fewestOn s ≡ fewestOn t
-  unfolding fewestOn campaignOf
-  alike-fewest = λ i. fewest allows (a .units i) (a .start i) (alike-limits i)
-
-  alike-support : supportOn s ≡ supportOn t
-  unfolding supportOn campaignOf
-  alike-support = λ i. findSupport (a .start i) (alike-limits i)
-
-  alike-on : onWords s ≡ onWords t
-  unfolding onWords campaignOf
-  alike-on = λ i. canBeOn allows (a .units i) (a .bound i) (a .start i) (alike-limits i)
-
-  alike-off : offWords s ≡ offWords t
-  unfolding offWords campaignOf
-  alike-off = λ i. canBeOff allows (a .units i) (a .bound i) (a .start i) (alike-limits i)
-
-  alike-plan-answer : (places : ℕ) → planAnswer s places ≡ planAnswer t places
+  same-bound : boundOf s ≡ boundOf t
   unfolding campaignOf
-  alike-plan-answer places = plan-staged s places ∙ alike ∙ sym (plan-staged t places)
-    where
-      staged : List ℕ → Answer (List ℕ)
-      staged s = unless (readCauses s) (unless (placesCauses s places) (unless (boundCauses s) (Given (supportOn s))))
+  same-bound = λ i. a i .bound
 
-      alike : staged s ≡ staged t
-      alike =
-          λ i. unless (a .causes i)
-          (unless (cause (ltb places (alike-many s t a i)) 8 (alike-many s t a i) ∷ [])
-          (unless (cause (ltb (a .bound i) (alike-fewest i)) 9 (alike-fewest i) ∷ []) (Given (alike-support i))))
+  same-start : startOf s ≡ startOf t
+  unfolding campaignOf
+  same-start = λ i. a i .start
+
+  same-steps : map untagged (stepsOf s) ≡ map untagged (stepsOf t)
+  unfolding campaignOf
+  same-steps = λ i. a i .steps
+
+  same-many : length (stepsOf s) ≡ length (stepsOf t)
+  same-many = sym (length-map (stepsOf s) untagged) ∙ ap length same-steps ∙ length-map (stepsOf t) untagged
+
+  same-limits : limitsOn s ≡ limitsOn t
+  same-limits = sym (map-map limitsOf untagged (stepsOf s)) ∙ ap (map limitsOf) same-steps ∙ map-map limitsOf untagged (stepsOf t)
+
+  same-fewest : fewestOn s ≡ fewestOn t
+  unfolding fewestOn
+  same-fewest = λ i. fewest allows (same-units i) (same-start i) (same-limits i)
+
+  same-support : supportOn s ≡ supportOn t
+  unfolding supportOn
+  same-support = λ i. findSupport (same-start i) (same-limits i)
+
+  same-on : onWords s ≡ onWords t
+  unfolding onWords
+  same-on = λ i. canBeOn allows (same-units i) (same-bound i) (same-start i) (same-limits i)
+
+  same-off : offWords s ≡ offWords t
+  unfolding offWords
+  same-off = λ i. canBeOff allows (same-units i) (same-bound i) (same-start i) (same-limits i)
+
+  same-accepts : (plan : List ℕ) → accepts s plan ≡ accepts t plan
+  unfolding accepts
+  same-accepts plan = λ i. cond (isFeasible allows (same-limits i) plan && leb (total (same-start i) plan) (same-bound i)) 1 0
+
+  -- past the reader: the causes that are left, and the plan
+  same-plan : (places : ℕ)
+      → unless (placesCauses s places) (unless (boundCauses s) (Given (supportOn s))) ≡ unless (placesCauses t places) (unless (boundCauses t) (Given (supportOn t)))
+  same-plan places =
+      λ i. unless (cause (ltb places (same-many i)) 8 (same-many i) ∷ [])
+      (unless (cause (ltb (same-bound i) (same-fewest i)) 9 (same-fewest i) ∷ []) (Given (same-support i)))
+
+-- ---- what the entries make of them
+
+module _ (s t : List ℕ) (same : readUntagged s ≡ readUntagged t) where
+  -- an entry makes the same of both, if it makes the same of a refusal and of campaigns that are the same but for tags
+  alike : {A R : Type 0} (f g : Answer A → R) (a b : Answer A) → ((n p : ℕ) → f (Refused n p) ≡ g (Refused n p))
+      → (withoutTags (campaignOf s) ≡ withoutTags (campaignOf t) → f a ≡ g b) → f (unless (readCauses s) a) ≡ g (unless (readCauses t) b)
+  alike f g a b = unless-same f g (readCauses s) (readCauses t) a b _ _ same
 
   pub alike-plan : (out : List ℕ) → warmPlan s out ≡ warmPlan t out
-  unfolding warmPlan
-  alike-plan out = λ i. planned (alike-start i) out (alike-plan-answer (length out) i)
+  unfolding warmPlan planned
+  alike-plan out =
+      ap (planned (startOf s) out) (plan-staged s (length out))
+      ∙ alike (planned (startOf s) out) (planned (startOf t) out) _ _ (λ n p. refl) (λ a i. planned (same-start s t a i) out (same-plan s t a (length out) i))
+      ∙ sym (ap (planned (startOf t) out) (plan-staged t (length out)))
 
   pub alike-chart : (on off : List ℕ) → warmChart s on off ≡ warmChart t on off
-  unfolding warmChart
-  alike-chart on off = λ i. charted (alike-start i) (alike-on i) (alike-off i) on off (alike-plan-answer (min (length on) (length off)) i)
-
-  alike-accepts : (plan : List ℕ) → accepts s plan ≡ accepts t plan
-  unfolding accepts campaignOf
-  alike-accepts plan = λ i. cond (isFeasible allows (alike-limits i) plan && leb (total (a .start i) plan) (a .bound i)) 1 0
+  unfolding warmChart charted
+  alike-chart on off =
+      let places = min (length on) (length off) in
+      ap (charted (startOf s) (onWords s) (offWords s) on off) (plan-staged s places)
+      ∙ alike (charted (startOf s) (onWords s) (offWords s) on off) (charted (startOf t) (onWords t) (offWords t) on off) _ _ (λ n p. refl)
+      (λ a i. charted (same-start s t a i) (same-on s t a i) (same-off s t a i) on off (same-plan s t a places i))
+      ∙ sym (ap (charted (startOf t) (onWords t) (offWords t) on off) (plan-staged t places))
 
   pub alike-verdict : (plan : List ℕ) → warmVerdict s plan ≡ warmVerdict t plan
-  unfolding warmVerdict verdictRefusals
+  unfolding warmVerdict judged
   alike-verdict plan =
-      λ i. judged
-      (unless
-      (a .causes i ++ (cause (not (eqb (length plan) (alike-many s t a i))) 10 (alike-many s t a i) ∷ []))
-      (Given (fullReply (total (alike-start i) plan) (alike-accepts plan i))))
+      ap judged (verdict-staged s plan)
+      ∙ alike judged judged _ _ (λ n p. refl)
+      (λ a i. judged (unless (cause (not (eqb (length plan) (same-many s t a i))) 10 (same-many s t a i) ∷ []) (Given (fullReply (total (same-start s t a i) plan) (same-accepts s t a plan i)))))
+      ∙ sym (ap judged (verdict-staged t plan))
+
+  -- of the answer of `warm_steps`, what tags play no part in
+  alike-steps : {R : Type 0} (f : Answer Campaign → R) → (withoutTags (campaignOf s) ≡ withoutTags (campaignOf t) → f (Given (campaignOf s)) ≡ f (Given (campaignOf t)))
+      → (places : ℕ) → f (stepsAnswer s places) ≡ f (stepsAnswer t places)
+  alike-steps f e places =
+      ap f (steps-staged s places)
+      ∙ alike f f _ _ (λ n p. refl)
+      (λ a. unless-same f f (placesCauses s places) (placesCauses t places) (Given (campaignOf s)) (Given (campaignOf t)) _ _
+      (λ i. unless (cause (ltb places (same-many s t a i)) 8 (same-many s t a i) ∷ []) (Given (same-many s t a i))) (λ n p. refl) (λ q. e a))
+      ∙ sym (ap f (steps-staged t places))
+
+  pub alike-reply : (places : ℕ) → stepsReply (stepsAnswer s places) ≡ stepsReply (stepsAnswer t places)
+  unfolding stepsReply campaignOf
+  alike-reply =
+      alike-steps stepsReply
+      (λ a i. record { refusal = 0; place = 0; units = same-units s t a i; steps = same-many s t a i; bound = same-bound s t a i; reserved = 0; start = same-start s t a i })
+
+  pub alike-list : (out : List Step) → map untagged (stepsWritten (stepsAnswer s (length out)) out) ≡ map untagged (stepsWritten (stepsAnswer t (length out)) out)
+  unfolding stepsWritten campaignOf
+  alike-list out =
+      alike-steps (λ x. map untagged (stepsWritten x out))
+      (λ a.
+      map-append untagged (stepsOf s) (drop (length (stepsOf s)) out)
+      ∙ ap₂ (λ xs (n : ℕ). xs ++ map untagged (drop n out)) (same-steps s t a) (same-many s t a)
+      ∙ sym (map-append untagged (stepsOf t) (drop (length (stepsOf t)) out)))
+      (length out)

@@ -1,44 +1,41 @@
 -- Laws on the answer of `warm_steps`: what it is by what the reader says, what may then be filled, and that this writes what the definition says.
-use mathlib.Core.Path.{_≡_, refl, sym, ap, ap₂, _∙_, subst}
-use mathlib.Core.List.{List, [], _∷_, _++_, map, map-append}
+use mathlib.Core.Path.{_≡_, refl, sym, ap, _∙_, subst}
+use mathlib.Core.List.{List, _++_}
 use Prim.Native.Nat.{ℕ, _≤_, _<_}
 use native.Mathlib.Omega.{arith}
-use lib.Dec.{ltb}
-use lib.ListN.{length, length-map, drop}
+use lib.ListN.{length, drop}
 use borrow.Author.Tests.{ltb-false}
 use Rattle.format.specs.declared.Step.{Step}
 use Rattle.format.specs.declared.Summary.{Summary}
-use Rattle.format.specs.Agreement.{untagged}
-use Rattle.format.specs.Answer.{Answer, Refused, Given, cause, unless}
+use Rattle.format.specs.Answer.{Answer, Refused, Given, unless}
 use Rattle.format.specs.Chain.{Inside, stepsFrom}
 use Rattle.format.specs.Reading.{stepsOf, readCauses, Campaign, campaignOf}
 use Rattle.format.specs.Stages.{summaryOf, summaryRead}
-use Rattle.format.proofs.Answers.{none-left, unless-append, passed-first, given-same, all-passed, unless-given, refused-whatever, unless-alike}
+use Rattle.format.proofs.Answers.{none-left, unless-append, passed-first, given-same, all-passed, unless-given, refused-whatever}
 use Rattle.promises.specs.Common.{placesCauses, written}
-use Rattle.promises.specs.Statements.{Alike}
 use Rattle.promises.specs.Steps.{stepsRefusals, stepsAnswer, stepsReply, stepsWritten}
 use Rattle.promises.proofs.Read.{was-opened, was-read, short-output, long-output}
 
 module _ (s : List ℕ) (places : ℕ) where
-  staged : stepsAnswer s places ≡ unless (readCauses s) (unless (placesCauses s places) (Given (campaignOf s)))
+  pub steps-staged : stepsAnswer s places ≡ unless (readCauses s) (unless (placesCauses s places) (Given (campaignOf s)))
   unfolding stepsRefusals
-  staged = unless-append (readCauses s) (placesCauses s places) (Given (campaignOf s))
+  steps-staged = unless-append (readCauses s) (placesCauses s places) (Given (campaignOf s))
 
   pub answer-refused : {n p : ℕ} → summaryRead s ≡ Refused n p → Refused n p ≡ stepsAnswer s places
-  answer-refused e = refused-whatever (readCauses s) (summaryOf s) (sym e) _ ∙ sym staged
+  answer-refused e = refused-whatever (readCauses s) (summaryOf s) (sym e) _ ∙ sym steps-staged
 
   module _ {x : Summary} (e : summaryRead s ≡ Given x) where
     pub answer-short : places < x .steps → Refused 8 (x .steps) ≡ stepsAnswer s places
-    answer-short h = short-output s e places h _ ∙ was-read s e _ ∙ sym staged
+    answer-short h = short-output s e places h _ ∙ was-read s e _ ∙ sym steps-staged
 
     pub answer-given : x .steps ≤ places → Given (campaignOf s) ≡ stepsAnswer s places
-    answer-given h = long-output s e places h _ ∙ was-read s e _ ∙ sym staged
+    answer-given h = long-output s e places h _ ∙ was-read s e _ ∙ sym steps-staged
 
   -- a campaign that is the answer was read, and has a place for each step
   given-answer : {c : Campaign} → stepsAnswer s places ≡ Given c
       → (summaryRead s ≡ Given (summaryOf s)) × ((campaignOf s ≡ c) × (length (stepsOf s) ≤ places))
   given-answer e =
-      let f = sym staged ∙ e in
+      let f = sym steps-staged ∙ e in
       let p = passed-first _ _ _ (unless-given (readCauses s) _ f) in
       (all-passed (readCauses s) _ f (Given (summaryOf s)), (given-same (none-left _ ∙ p .1), ltb-false places (length (stepsOf s)) (p .0)))
 
@@ -66,34 +63,3 @@ filled s out = go (stepsAnswer s (length out)) refl
         let r = given-answer s (length out) e in
         subst (λ (d : Campaign). stepsFrom s 0 (length (d .steps)) ++ drop (length (d .steps)) out ≡ written (d .steps) out) (r .1 .0)
         (ap (λ xs. xs ++ drop (length (stepsOf s)) out) (was-opened s (r .0) .steps))
-
--- ---- sheets that are alike
-
-module _ (s t : List ℕ) (a : Alike s t) where
-  pub alike-many : length (stepsOf s) ≡ length (stepsOf t)
-  alike-many = sym (length-map (stepsOf s) untagged) ∙ ap length (a .steps) ∙ length-map (stepsOf t) untagged
-
-  pub alike-reply : stepsReply (Given (campaignOf s)) ≡ stepsReply (Given (campaignOf t))
-  unfolding stepsReply campaignOf
-  alike-reply =
-      λ i. record { refusal = 0; place = 0; units = a .units i; steps = alike-many i; bound = a .bound i; reserved = 0; start = a .start i }
-
-alike-refusals : (s t : List ℕ) (places : ℕ) → Alike s t → stepsRefusals s places ≡ stepsRefusals t places
-unfolding stepsRefusals
-alike-refusals s t places a =
-    ap₂ (λ cs (n : ℕ). cs ++ (cause (ltb places n) 8 n ∷ [])) (a .causes) (alike-many s t a)
-
--- what is alike of their campaigns is alike of the answers
-pub alike-answer : (s t : List ℕ) (places : ℕ) → Alike s t → {B : Type 0} (f : Answer Campaign → B) → f (Given (campaignOf s)) ≡ f (Given (campaignOf t))
-    → f (stepsAnswer s places) ≡ f (stepsAnswer t places)
-alike-answer s t places a f e =
-    ap (λ cs. f (unless cs (Given (campaignOf s)))) (alike-refusals s t places a)
-    ∙ unless-alike f (stepsRefusals t places) (Given (campaignOf s)) (Given (campaignOf t)) e
-
-pub alike-written : (s t : List ℕ) (out : List Step) (a : Alike s t)
-    → map untagged (stepsWritten (Given (campaignOf s)) out) ≡ map untagged (stepsWritten (Given (campaignOf t)) out)
-unfolding stepsWritten campaignOf
-alike-written s t out a =
-    map-append untagged (stepsOf s) (drop (length (stepsOf s)) out)
-    ∙ ap₂ (λ xs (n : ℕ). xs ++ map untagged (drop n out)) (a .steps) (alike-many s t a)
-    ∙ sym (map-append untagged (stepsOf t) (drop (length (stepsOf t)) out))

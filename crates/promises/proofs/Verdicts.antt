@@ -23,7 +23,7 @@ use Rattle.promises.specs.Statements.{Meets}
 use Rattle.promises.proofs.Read.{many-steps, was-read}
 
 module _ (s plan : List ℕ) where
-  verdict-staged : verdictAnswer s plan ≡ unless (readCauses s) (unless (wordsCauses s (length plan)) (Given (fullReply (total (startOf s) plan) (accepts s plan))))
+  pub verdict-staged : verdictAnswer s plan ≡ unless (readCauses s) (unless (wordsCauses s (length plan)) (Given (fullReply (total (startOf s) plan) (accepts s plan))))
   unfolding verdictRefusals
   verdict-staged = unless-append (readCauses s) (wordsCauses s (length plan)) _
 

@@ -2,13 +2,12 @@
 use Prim.Native.Nat.{ℕ, _≤_, _<_}
 use mathlib.Core.Path.{_≡_}
 use mathlib.Core.Logic.{_↔_, _⊎_}
-use mathlib.Core.List.{List, map}
+use mathlib.Core.List.{List}
 use lib.ListN.{length, getD}
 use Rattle.units.specs.Sets.{bit}
-use Rattle.format.specs.Agreement.{untagged}
 use Rattle.format.specs.Answer.{Cause, First}
 use Rattle.format.specs.Format.{unitsOf, boundOf, startOf}
-use Rattle.format.specs.Reading.{stepsOf, readCauses, campaignOf}
+use Rattle.format.specs.Reading.{stepsOf, readCauses}
 use Rattle.plans.specs.Switch.{FeasiblePlan, total}
 use Rattle.promises.specs.Common.{limitsOn, written, refusedReply, fullReply}
 use Rattle.promises.specs.Plan.{supportOn, warmPlan}
@@ -22,14 +21,6 @@ pub record Exact {R : Type 0} (causes : List Cause) (Number : ℕ → Type 0) (r
   pub numbered : (n p : ℕ) → First causes n p → Number n
   pub refusals : (n p : ℕ) → First causes n p → result ≡ refused n p
   pub replies : ((n p : ℕ) → First causes n p → ⊥) → result ≡ given
-
--- Two sheets have the same causes of refusal, units, bound and start set, and the same steps but for their tags.
-pub record Alike (s t : List ℕ) : Type 0 where
-  pub causes : readCauses s ≡ readCauses t
-  pub units : campaignOf s .units ≡ campaignOf t .units
-  pub bound : campaignOf s .bound ≡ campaignOf t .bound
-  pub start : campaignOf s .start ≡ campaignOf t .start
-  pub steps : map untagged (stepsOf s) ≡ map untagged (stepsOf t)
 
 -- no cause of refusals 1 to 7 holds: the sheet passes the checks
 abbrev pub Passes : List ℕ → Type 0
