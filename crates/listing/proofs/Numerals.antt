@@ -8,7 +8,7 @@ use native.Mathlib.Omega.{arith}
 use lib.Dec.{ltb}
 use lib.ListN.{length, length-append}
 use borrow.Author.Tests.{lt-ltb, le-ltb, ltb-true, ltb-false}
-use Rattle.listing.specs.Digits.{digit, decimalIn, decimal, hexadecimal}
+use Rattle.promises.specs.Digits.{digit, decimalIn, decimal, hexadecimal}
 
 -- ---- decimal
 

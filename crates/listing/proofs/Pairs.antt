@@ -5,7 +5,7 @@ use mathlib.Core.List.{List, [], _∷_}
 use Prim.Native.Nat.{ℕ, zero, suc, _+_, _*_, _/_, _%_, _<_}
 use native.Mathlib.Omega.{arith}
 use lib.ListN.{getD}
-use Rattle.listing.specs.Digits.{digit}
+use Rattle.promises.specs.Digits.{digit}
 
 -- the two digits of each of k bytes from i on
 abbrev pub pairsFrom : ℕ → ℕ → List ℕ

@@ -7,8 +7,8 @@ use native.Mathlib.Omega.{arith}
 use lib.ListN.{length, length-append, getD, drop}
 use lib.Seq.{drop-cons}
 use Rattle.plans.specs.Switch.{switches}
-use Rattle.listing.specs.Digits.{decimal, hexadecimal}
-use Rattle.listing.specs.Lines.{field, blank, lineEnd, stepLine, stepLines}
+use Rattle.promises.specs.Digits.{decimal, hexadecimal}
+use Rattle.promises.specs.Listing.{field, blank, lineEnd, stepLine, stepLines}
 use Rattle.listing.specs.Placed.{Placed}
 use Rattle.listing.proofs.Numerals.{decimal-width, hexadecimal-length}
 use Rattle.listing.proofs.Places.{placed-then, placed-none, placed-as}

@@ -1,4 +1,3 @@
--- Numbers as `Digits`, the `Lines` of a listing and the listing of a sheet, and how a text is `Placed` in an output.
-pub mod Digits
-pub mod Lines
+-- How a text is `Placed` in an output, and the `Room` that it takes. What the text is stands in specs/Listing.antt of `promises`.
 pub mod Placed
+pub mod Room

@@ -3,7 +3,7 @@ ghost use mathlib.Core.Path.{_≡_};
 ghost use mathlib.Core.List.{[], _∷_};
 ghost use Prim.Native.Nat.{_+_, _*_, _/_, _%_, _≤_, _<_};
 ghost use lib.ListN.{length};
-ghost use Rattle.listing.specs.Digits.{digit, decimal, hexadecimal};
+ghost use Rattle.promises.specs.Digits.{digit, decimal, hexadecimal};
 ghost use Rattle.listing.specs.Placed.{Placed};
 
 // The two hexadecimal digits of each byte, from 00 to ff.

@@ -22,7 +22,8 @@ ghost use Rattle.plans.specs.Rows.{rowSize};
 ghost use Rattle.format.specs.Answer.{Given};
 ghost use Rattle.format.specs.Format.{recordLimit};
 ghost use Rattle.format.specs.Stages.{summaryRead};
-ghost use Rattle.listing.specs.Lines.{longestListing, planLines, listing, listPlan};
+ghost use Rattle.promises.specs.Listing.{planLines, listing, listPlan};
+ghost use Rattle.listing.specs.Room.{longestListing};
 ghost use Rattle.listing.specs.Placed.{Placed};
 
 // No listing is longer: a first line, at most 256 lines of steps, and a last line.

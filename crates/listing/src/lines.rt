@@ -7,9 +7,10 @@ use units::size;
 ghost use mathlib.Core.List.{_++_};
 ghost use Prim.Native.Nat.{_+_, _*_, _≤_, _<_};
 ghost use lib.ListN.{length};
-ghost use Rattle.plans.specs.Rows.{stepLimit};
-ghost use Rattle.listing.specs.Digits.{decimal};
-ghost use Rattle.listing.specs.Lines.{firstMost, stepMost, totalMost, refusedMost, firstLine, stepLine, stepLines, totalLine, refusedLine};
+ghost use Rattle.format.specs.Format.{recordLimit};
+ghost use Rattle.promises.specs.Digits.{decimal};
+ghost use Rattle.promises.specs.Listing.{firstLine, stepLine, stepLines, totalLine, refusedLine};
+ghost use Rattle.listing.specs.Room.{firstMost, stepMost, totalMost, refusedMost};
 ghost use Rattle.listing.specs.Placed.{Placed};
 
 // The most bytes of the line of a listing: the first, with three numbers of 32 bits, that of a step, the last, and that of a refusal.
@@ -69,7 +70,7 @@ fn put_step_line(step: u32, set: u64, many: u32, out: &mut [u8], at: usize) -> u
 
 // The lines of all steps of a plan, where `start` is on before it.
 pub(crate) fn put_step_lines(start: u64, plan: &[u64], out: &mut [u8], at: usize) -> usize
-    requires { ⌜ length (now plan) ≤ stepLimit ⌝ }
+    requires { ⌜ length (now plan) ≤ recordLimit ⌝ }
     requires { ⌜ at + stepMost * length (now plan) ≤ length (now out) ⌝ }
     ensures { λ r. ⌜ Placed (stepLines 1 start (now (plan .entry))) (now (out .entry)) at (now (out .exit)) r ⌝ }
     ensures { λ r. ⌜ r ≤ at + stepMost * length (now (plan .entry)) ⌝ }

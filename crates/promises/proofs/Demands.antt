@@ -9,30 +9,33 @@ use mathlib.Core.Bool.{true, false}
 use mathlib.Core.List.{List, [], _++_, map}
 use Prim.Native.Nat.{ℕ, suc, _+_, _≤_, min}
 use native.Mathlib.Omega.{arith}
-use lib.ListN.{length}
+use lib.ListN.{length, take, drop}
+use lib.Seq.{take-at}
 use Rattle.units.specs.Limits.{Feasible, hasFeasible}
 use Rattle.units.proofs.Limits.{some-feasible}
 use Rattle.plans.specs.Switch.{total}
 use Rattle.format.specs.declared.Step.{Step}
 use Rattle.format.specs.Agreement.{Agree, untagged, readUntagged}
-use Rattle.format.specs.Answer.{Refused, Given, unless}
+use Rattle.format.specs.Answer.{Refused, Given, unless, First}
 use Rattle.format.specs.Chain.{following, chainOf, linkCauses}
-use Rattle.format.specs.Format.{boundOf, startOf}
+use Rattle.format.specs.Format.{unitsOf, boundOf, startOf}
 use Rattle.format.specs.Reading.{stepsOf, readCauses, campaignOf}
 use Rattle.format.proofs.Agreements.{same-read}
-use Rattle.format.proofs.Answers.{numbered-append, Numbered}
+use Rattle.format.proofs.Answers.{none-holds, numbered-append, Numbered}
 use Rattle.format.proofs.Chains.{chain-is-long-enough}
 use Rattle.format.proofs.Readings.{numbered-read}
 use Rattle.promises.specs.Chart.{onWords, offWords, charted, warmChart}
 use Rattle.promises.specs.Common.{placesCauses, written, refusedReply, fullReply}
-use Rattle.promises.specs.Plan.{fewestOn, supportOn, boundCauses, planRefusals, planned, warmPlan}
-use Rattle.promises.specs.Statements.{Exact, Passes, Meets, FewestAndExact}
+use Rattle.promises.specs.Plan.{supportOn, boundCauses, planRefusals, planned, warmPlan}
+use Rattle.promises.specs.declared.Reply.{Reply}
+use Rattle.promises.specs.Listing.{refusedLine, planLines, listingRefusals, listed, listing, printed, listPlan}
+use Rattle.promises.specs.Statements.{Exact, Passes, Meets, HandedOut, FewestAndExact}
 use Rattle.promises.specs.Steps.{stepsRefusals, stepsReply, stepsWritten, warmSteps}
 use Rattle.promises.specs.Verdict.{wordsCauses, verdictRefusals, accepts, judged, warmVerdict}
 use Rattle.promises.proofs.Charts.{words-length, words-cells, no-others}
 use Rattle.promises.proofs.Exactly.{exact}
-use Rattle.promises.proofs.Likeness.{alike-reply, alike-list, alike-plan, alike-chart, alike-verdict}
-use Rattle.promises.proofs.Plans.{plan-fewest, plan-length-on, over-bound, in-bound, plan-open}
+use Rattle.promises.proofs.Likeness.{alike-reply, alike-list, alike-plan, alike-chart, alike-verdict, alike-listing}
+use Rattle.promises.proofs.Plans.{plan-fewest, plan-length-on, over-bound, in-bound, plan-open, plan-given}
 use Rattle.promises.proofs.Read.{passed}
 use Rattle.promises.proofs.Verdicts.{verdict-given, accepts-exactly, turned-down}
 
@@ -89,6 +92,20 @@ demand-1-verdict s plan =
     (numbered-append VerdictNumber (readCauses s) (wordsCauses s (length plan)) (numbered-read VerdictNumber (λ n l h. inl (l, h)) s) (inr refl, tt))
     (fullReply (total (startOf s) plan) (accepts s plan)) judged
 
+-- refusals 1 to 7 and 9
+abbrev pub ListingNumber : ℕ → Type 0
+ListingNumber n = ((1 ≤ n) × (n ≤ 7)) ⊎ (n ≡ 9)
+
+-- the listing is the line of that refusal, or the lines of the plan that FindSupport gives
+pub demand-1-listing : (s out : List ℕ)
+    → Exact (listingRefusals s) ListingNumber (listPlan s out) (λ n p. printed (refusedLine n p) out)
+    (printed (planLines (unitsOf s) (length (stepsOf s)) (boundOf s) (startOf s) (supportOn s) (total (startOf s) (supportOn s))) out)
+unfolding listing listed listingRefusals Numbered
+demand-1-listing s out =
+    exact (listingRefusals s) ListingNumber
+    (numbered-append ListingNumber (readCauses s) (boundCauses s) (numbered-read ListingNumber (λ n l h. inl (l, h)) s) (inr refl, tt)) (supportOn s)
+    (λ a. printed (listed s a) out)
+
 -- ---- demand 2: a plan handed in beside a sheet that passes the checks
 
 -- With one set for each step it is accepted if it meets the sheet, and turned down if not. Its total is given either way.
@@ -98,16 +115,32 @@ unfolding warmVerdict judged campaignOf
 demand-2-verdict s plan ok long =
     (sym (ap judged (verdict-given s plan (passed s ok) long)), (accepts-exactly s plan .1, turned-down s plan))
 
--- The plan that is handed out is the one that FindSupport gives, and the verdict accepts it.
-pub demand-2-plan : (s out : List ℕ) → Passes s → length (stepsOf s) ≤ length out → fewestOn s ≤ boundOf s
-    → (warmPlan s out ≡ (fullReply (total (startOf s) (supportOn s)) 0, written (supportOn s) out)) × (warmVerdict s (supportOn s) ≡ fullReply (total (startOf s) (supportOn s)) 1)
-unfolding warmPlan planned campaignOf
-demand-2-plan s out ok room bound =
-    let e = passed s ok in
-    let best = plan-fewest s e in (
-      ap (planned (startOf s) out) (sym (in-bound s e (omega (arith, best .1 .0)) (Given (supportOn s)) ∙ plan-open s (length out) e room)),
-      demand-2-verdict s (supportOn s) ok (plan-length-on s) .0 ∙ ap (fullReply (total (startOf s) (supportOn s))) (accepts-exactly s (supportOn s) .1 (best .0, omega (arith, best .1 .0))),
-    )
+-- A plan that was handed out, with a reply whose refusal is 0, is the one that FindSupport gives, and the verdict accepts it.
+pub demand-2-plan : (s out : List ℕ) → warmPlan s out .0 .refusal ≡ 0 → HandedOut s (warmPlan s out .0) (warmPlan s out .1)
+unfolding warmVerdict judged campaignOf
+demand-2-plan s out handed = go (exactly .decided)
+  where
+    exactly : Exact (planRefusals s (length out)) PlanNumber (warmPlan s out) (λ n p. (refusedReply n p, out))
+        (fullReply (total (startOf s) (supportOn s)) 0, written (supportOn s) out)
+    exactly = demand-1-plan s out
+
+    go : ((n : ℕ) × ((p : ℕ) × First (planRefusals s (length out)) n p)) ⊎ ((n p : ℕ) → First (planRefusals s (length out)) n p → ⊥)
+        → HandedOut s (warmPlan s out .0) (warmPlan s out .1)
+    go (inl (n, (p, f))) = absurd (omega (arith, exactly .numbered n p f, ap (λ (r : Reply × List ℕ). r .0 .refusal) (exactly .refusals n p f)))
+    go (inr none) =
+        let reply = exactly .replies none in
+        let (e, bound) = plan-given s (length out) (none-holds (planRefusals s (length out)) (Given (supportOn s)) none) in
+        let best = plan-fewest s e in
+        let words : take (length (stepsOf s)) (warmPlan s out .1) ≡ supportOn s =
+        ap (λ (r : Reply × List ℕ). take (length (stepsOf s)) (r .1)) reply ∙ take-at (supportOn s) (drop (length (supportOn s)) out) (length (stepsOf s)) (plan-length-on s) in
+        record {
+          support = words;
+          accepted =
+            ap (warmVerdict s) words
+            ∙ sym (ap judged (verdict-given s (supportOn s) e (plan-length-on s)))
+            ∙ ap (fullReply (total (startOf s) (supportOn s))) (accepts-exactly s (supportOn s) .1 (best .0, omega (arith, best .1 .0)))
+            ∙ sym (ap (λ (r : Reply × List ℕ). fullReply (r .0 .total) 1) reply);
+        }
 
 -- ---- demand 3: any sheet that passes the checks, with outputs that have a place for every step
 
@@ -164,3 +197,6 @@ agreeing-chart s t on off g = alike-chart s t (agreeing-sheets s t g) on off
 
 pub agreeing-verdict : (s t plan : List ℕ) → Agree s t → warmVerdict s plan ≡ warmVerdict t plan
 agreeing-verdict s t plan g = alike-verdict s t (agreeing-sheets s t g) plan
+
+pub agreeing-listing : (s t out : List ℕ) → Agree s t → listPlan s out ≡ listPlan t out
+agreeing-listing s t out g = ap (λ text. printed text out) (alike-listing s t (agreeing-sheets s t g))

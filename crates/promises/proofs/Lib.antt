@@ -1,11 +1,12 @@
 -- `Demands` has the theorems that were asked for: open it first. `Exactly` has the law behind demand 1. `Read` has what is known of a sheet that was read.
--- `Steps`, `Plans`, `Charts` and `Verdicts` have the laws on each entry's answer, `Likeness` those on sheets that are alike, and `Examples` the
--- worked examples.
+-- `Steps`, `Plans`, `Charts`, `Verdicts` and `Listings` have the laws on each entry's answer, `Likeness` those on sheets that are read the same but for
+-- tags, and `Examples` the worked examples.
 pub mod Charts
 pub mod Demands
 pub mod Examples
 mod Exactly
 mod Likeness
+pub mod Listings
 pub mod Plans
 pub mod Read
 pub mod Steps

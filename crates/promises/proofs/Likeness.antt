@@ -18,8 +18,10 @@ use Rattle.plans.specs.Switch.{total}
 use Rattle.promises.specs.Common.{limitsOn, placesCauses, fullReply}
 use Rattle.promises.specs.Plan.{fewestOn, supportOn, boundCauses, planned, warmPlan}
 use Rattle.promises.specs.Chart.{onWords, offWords, charted, warmChart}
+use Rattle.promises.specs.Listing.{planLines, listed, listing}
 use Rattle.promises.specs.Verdict.{wordsCauses, accepts, judged, warmVerdict}
 use Rattle.promises.specs.Steps.{stepsAnswer, stepsReply, stepsWritten}
+use Rattle.promises.proofs.Listings.{listing-staged}
 use Rattle.promises.proofs.Plans.{plan-staged}
 use Rattle.promises.proofs.Steps.{steps-staged}
 use Rattle.promises.proofs.Verdicts.{verdict-staged}
@@ -107,6 +109,17 @@ module _ (s t : List ℕ) (same : readUntagged s ≡ readUntagged t) where
       ∙ alike judged judged _ _ (λ n p. refl)
       (λ a i. judged (unless (cause (not (eqb (length plan) (same-many s t a i))) 10 (same-many s t a i) ∷ []) (Given (fullReply (total (same-start s t a i) plan) (same-accepts s t a plan i)))))
       ∙ sym (ap judged (verdict-staged t plan))
+
+  pub alike-listing : listing s ≡ listing t
+  unfolding listed
+  alike-listing =
+      listing-staged s
+      ∙ alike (listed s) (listed t) _ _ (λ n p. refl)
+      (λ a.
+      unless-same (listed s) (listed t) (boundCauses s) (boundCauses t) (Given (supportOn s)) (Given (supportOn t)) _ _
+      (λ i. unless (cause (ltb (same-bound s t a i) (same-fewest s t a i)) 9 (same-fewest s t a i) ∷ []) (Given (same-many s t a i))) (λ n p. refl)
+      (λ q i. planLines (same-units s t a i) (same-many s t a i) (same-bound s t a i) (same-start s t a i) (same-support s t a i) (total (same-start s t a i) (same-support s t a i))))
+      ∙ sym (listing-staged t)
 
   -- of the answer of `warm_steps`, what tags play no part in
   alike-steps : {R : Type 0} (f : Answer Campaign → R) → (withoutTags (campaignOf s) ≡ withoutTags (campaignOf t) → f (Given (campaignOf s)) ≡ f (Given (campaignOf t)))

@@ -5,7 +5,7 @@ use mathlib.Core.List.{List, _++_}
 use Prim.Native.Nat.{ℕ, _≤_, _<_}
 use native.Mathlib.Omega.{arith}
 use lib.ListN.{length, length-map}
-use borrow.Author.Tests.{lt-ltb, le-ltb}
+use borrow.Author.Tests.{lt-ltb, le-ltb, ltb-false}
 use Rattle.plans.specs.Switch.{FeasiblePlan, total}
 use Rattle.plans.proofs.Fewest.{support-fewest, support-length}
 use Rattle.format.specs.declared.Summary.{Summary}
@@ -13,7 +13,7 @@ use Rattle.format.specs.Answer.{Answer, Refused, Given, unless}
 use Rattle.format.specs.Format.{limitsOf, unitsOf, boundOf, startOf}
 use Rattle.format.specs.Reading.{stepsOf, readCauses}
 use Rattle.format.specs.Stages.{summaryOf, summaryRead}
-use Rattle.format.proofs.Answers.{refused-by, passed-by, none-left, unless-append, refused-whatever}
+use Rattle.format.proofs.Answers.{refused-by, passed-by, none-left, unless-append, refused-whatever, passed-first, all-passed, unless-given}
 use Rattle.promises.specs.Common.{limitsOn, placesCauses}
 use Rattle.promises.specs.Plan.{fewestOn, supportOn, boundCauses, planRefusals, planAnswer}
 use Rattle.promises.proofs.Read.{satisfiable, uppers-below, was-read, short-output, long-output}
@@ -57,3 +57,10 @@ module _ (s : List ℕ) (places : ℕ) where
 
     pub plan-open : x .steps ≤ places → unless (boundCauses s) (Given (supportOn s)) ≡ planAnswer s places
     plan-open h = long-output s e places h _ ∙ was-read s e _ ∙ sym plan-staged
+
+  -- where a plan is the answer, the sheet was read, and the fewest switches are within the bound
+  pub plan-given : {plan : List ℕ} → planAnswer s places ≡ Given plan → (summaryRead s ≡ Given (summaryOf s)) × (fewestOn s ≤ boundOf s)
+  plan-given e =
+      let past-reader = sym plan-staged ∙ e in
+      let past-places = unless-given (placesCauses s places) _ (unless-given (readCauses s) _ past-reader) in
+      (all-passed (readCauses s) _ past-reader (Given (summaryOf s)), ltb-false (boundOf s) (fewestOn s) (passed-first _ _ _ past-places .0))

@@ -3,15 +3,17 @@ use Prim.Native.Nat.{ℕ, _≤_, _<_}
 use mathlib.Core.Path.{_≡_}
 use mathlib.Core.Logic.{_↔_, _⊎_}
 use mathlib.Core.List.{List}
-use lib.ListN.{length, getD}
+use lib.ListN.{length, getD, take}
 use Rattle.units.specs.Sets.{bit}
 use Rattle.format.specs.Answer.{Cause, First}
 use Rattle.format.specs.Format.{unitsOf, boundOf, startOf}
 use Rattle.format.specs.Reading.{stepsOf, readCauses}
 use Rattle.plans.specs.Switch.{FeasiblePlan, total}
+use Rattle.promises.specs.declared.Reply.{Reply}
 use Rattle.promises.specs.Common.{limitsOn, written, refusedReply, fullReply}
 use Rattle.promises.specs.Plan.{supportOn, warmPlan}
 use Rattle.promises.specs.Chart.{onWords, offWords, warmChart}
+use Rattle.promises.specs.Verdict.{warmVerdict}
 
 -- An entry on one input answers exactly: `result` is its reply with all lent memory afterwards. If the first cause of the list that holds has
 -- number n and place p, then n is one of the entry's numbers and the result is `refused n p`; if none holds, the result is `given`.
@@ -29,6 +31,12 @@ Passes s = (n p : ℕ) → First (readCauses s) n p → ⊥
 -- a plan meets the sheet: it is feasible, and its switches, counted from the start set, are within the bound
 abbrev pub Meets : List ℕ → List ℕ → Type 0
 Meets s plan = FeasiblePlan (limitsOn s) plan × (total (startOf s) plan ≤ boundOf s)
+
+-- Demand 2 on what `warm_plan` replied and left in its output: the words in the first places are the plan that FindSupport gives, and the verdict accepts them,
+-- with the total that was replied.
+pub record HandedOut (s : List ℕ) (reply : Reply) (out : List ℕ) : Type 0 where
+  pub support : take (length (stepsOf s)) out ≡ supportOn s
+  pub accepted : warmVerdict s (take (length (stepsOf s)) out) ≡ fullReply (reply .total) 1
 
 -- some plan that meets the sheet has unit u on in step i (v = 1), or off (v = 0); steps count from 0 here
 abbrev pub SomePlanHas : List ℕ → ℕ → ℕ → ℕ → Type 0

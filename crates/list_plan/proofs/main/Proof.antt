@@ -1,6 +1,6 @@
 -- `list_plan::main` is safe: the listing lies within the array.
 use borrow.Author.Needs.{needs}
-use Rattle.listing.proofs.Listings.{listing-within}
+use Rattle.listing.proofs.Within.{listing-within}
 use Rattle.list_plan.proofs.main.Statement.{statement}
 use Rattle.list_plan.proofs.main.Tie as tie
 

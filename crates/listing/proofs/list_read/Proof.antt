@@ -7,8 +7,8 @@ use denote.Ref.{now}
 use borrow.Author.Needs.{needs}
 use Rattle.promises.proofs.Read.{was-opened, bound-is}
 use Rattle.campaign.proofs.Decoded.{plan-taken}
-use Rattle.listing.specs.Lines.{refusedLine, planLines}
-use Rattle.listing.proofs.Listings.{listing-refused, listing-planned}
+use Rattle.promises.specs.Listing.{refusedLine, planLines}
+use Rattle.promises.proofs.Listings.{listing-refused, listing-planned}
 use Rattle.listing.proofs.Places.{placed-as}
 use Rattle.listing.proofs.list_read.Statement.{statement}
 use Rattle.listing.proofs.list_read.Tie as tie

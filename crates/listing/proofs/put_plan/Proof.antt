@@ -6,7 +6,7 @@ use native.Mathlib.Omega.{arith}
 use denote.Ref.{now}
 use lib.ListN.{length, take}
 use lib.Seq.{length-take-le}
-use Rattle.listing.specs.Lines.{firstLine, stepLines, totalLine, planLines}
+use Rattle.promises.specs.Listing.{firstLine, stepLines, totalLine, planLines}
 use Rattle.listing.proofs.Places.{placed-then, placed-length, placed-as}
 use borrow.Author.Needs.{needs}
 use Rattle.listing.proofs.put_plan.Statement.{statement}

@@ -1,6 +1,6 @@
 -- `listing_cases::has_listing` is safe: the listing lies within the array.
 use borrow.Author.Needs.{needs}
-use Rattle.listing.proofs.Listings.{listing-within}
+use Rattle.listing.proofs.Within.{listing-within}
 use Rattle.listing_cases.proofs.has_listing.Statement.{statement}
 use Rattle.listing_cases.proofs.has_listing.Tie as tie
 

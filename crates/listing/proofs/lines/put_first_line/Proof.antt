@@ -1,6 +1,6 @@
 -- `listing::lines::put_first_line` meets its contract.
 use native.Mathlib.Omega.{arith}
-use Rattle.listing.specs.Lines.{firstLine}
+use Rattle.promises.specs.Listing.{firstLine}
 use Rattle.listing.proofs.Numerals.{decimal-width, word-width}
 use Rattle.listing.proofs.Places.{placed-then, placed-length}
 use borrow.Author.Needs.{needs}

@@ -1,6 +1,6 @@
 -- `listing::lines::put_step_line` meets its contract.
 use native.Mathlib.Omega.{arith}
-use Rattle.listing.specs.Lines.{stepLine}
+use Rattle.promises.specs.Listing.{stepLine}
 use Rattle.listing.proofs.Numerals.{decimal-width, hexadecimal-length}
 use Rattle.listing.proofs.Places.{placed-then, placed-length}
 use borrow.Author.Needs.{needs}

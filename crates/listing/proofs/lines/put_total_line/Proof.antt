@@ -1,6 +1,6 @@
 -- `listing::lines::put_total_line` meets its contract.
 use native.Mathlib.Omega.{arith}
-use Rattle.listing.specs.Lines.{totalLine}
+use Rattle.promises.specs.Listing.{totalLine}
 use Rattle.listing.proofs.Numerals.{decimal-width, word-width}
 use Rattle.listing.proofs.Places.{placed-then, placed-length}
 use borrow.Author.Needs.{needs}

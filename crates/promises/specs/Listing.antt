@@ -1,15 +1,14 @@
--- The listing of a sheet: its plan or its refusal, as text.
-use Prim.Native.Nat.{ℕ, _+_, _*_}
+-- `list_plan`: refusals 1 to 7 and 9, or the plan that FindSupport gives, as text.
+use Prim.Native.Nat.{ℕ, _+_}
 use mathlib.Core.List.{List, [], _∷_, _++_}
 use lib.ListN.{length}
-use Rattle.format.specs.Answer.{Answer, Refused, Given, unless}
+use Rattle.format.specs.Answer.{Answer, Refused, Given, Cause, unless}
 use Rattle.format.specs.Format.{unitsOf, boundOf, startOf}
 use Rattle.format.specs.Reading.{stepsOf, readCauses}
 use Rattle.plans.specs.Switch.{switches, total}
-use Rattle.plans.specs.Rows.{stepLimit}
 use Rattle.promises.specs.Plan.{supportOn, boundCauses}
 use Rattle.promises.specs.Common.{written}
-use Rattle.listing.specs.Digits.{decimal, hexadecimal}
+use Rattle.promises.specs.Digits.{decimal, hexadecimal}
 
 -- ---- words
 
@@ -40,23 +39,6 @@ abbrev pub lineEnd : List ℕ
 lineEnd = 10 ∷ []
 
 -- ---- lines
-
--- the most bytes of a line: the first, with three numbers of 32 bits, that of a step, the last, and that of a refusal
-abbrev pub firstMost : ℕ
-firstMost = 51
-
-abbrev pub stepMost : ℕ
-stepMost = 24
-
-abbrev pub totalMost : ℕ
-totalMost = 17
-
-abbrev pub refusedMost : ℕ
-refusedMost = 30
-
--- and of a listing, which has at most 256 lines of steps
-abbrev pub longestListing : ℕ
-longestListing = firstMost + stepLimit * stepMost + totalMost
 
 -- a word and a number
 abbrev pub field : List ℕ → ℕ → List ℕ
@@ -89,15 +71,22 @@ planLines d n bound start plan many = firstLine d n bound ++ stepLines 1 start p
 
 -- ---- the listing
 
--- of a refusal, or of a plan for that sheet
+-- refusals 1 to 7 and 9
+unfoldable pub listingRefusals : List ℕ → List Cause
+listingRefusals s = readCauses s ++ boundCauses s
+
+-- the text of a refusal, or of a plan for that sheet
 unfoldable pub listed : List ℕ → Answer (List ℕ) → List ℕ
 listed s (Refused n p) = refusedLine n p
 listed s (Given plan) = planLines (unitsOf s) (length (stepsOf s)) (boundOf s) (startOf s) plan (total (startOf s) plan)
 
--- of any bytes: one refusal of 1 to 7 or 9, or the plan that FindSupport gives
+-- the listing of any bytes: one refusal, or the plan that FindSupport gives
 unfoldable pub listing : List ℕ → List ℕ
-listing s = listed s (unless (readCauses s ++ boundCauses s) (Given (supportOn s)))
+listing s = listed s (unless (listingRefusals s) (Given (supportOn s)))
 
--- how many bytes are put into an output that has room, and what it holds afterwards
+-- how many bytes a text has, and what an output with room for it holds afterwards
+abbrev pub printed : List ℕ → List ℕ → ℕ × List ℕ
+printed text out = (length text, written text out)
+
 abbrev pub listPlan : List ℕ → List ℕ → ℕ × List ℕ
-listPlan s out = (length (listing s), written (listing s) out)
+listPlan s out = printed (listing s) out

@@ -2,9 +2,6 @@
 use mathlib.Core.Path.{_≡_, sym, ap, _∙_}
 use mathlib.Core.List.{List}
 use Prim.Native.Nat.{ℕ, _≤_, _<_}
-use native.Mathlib.Omega.{arith}
-use lib.ListN.{length, length-append, take, drop}
-use lib.Seq.{length-take-le}
 use Rattle.plans.specs.Switch.{total}
 use Rattle.format.specs.declared.Summary.{Summary}
 use Rattle.format.specs.Answer.{Answer, Refused, Given, unless}
@@ -12,27 +9,26 @@ use Rattle.format.specs.Format.{boundOf, startOf}
 use Rattle.format.specs.Reading.{readCauses}
 use Rattle.format.specs.Stages.{summaryOf, summaryRead}
 use Rattle.format.proofs.Answers.{unless-append, refused-whatever}
-use Rattle.promises.specs.Common.{written}
 use Rattle.promises.specs.Plan.{supportOn, boundCauses}
 use Rattle.promises.proofs.Plans.{over-bound, in-bound}
 use Rattle.promises.proofs.Read.{many-steps, start-is, bound-is, units-are, was-read}
-use Rattle.listing.specs.Lines.{refusedLine, planLines, listed, listing, listPlan}
+use Rattle.promises.specs.Listing.{refusedLine, planLines, listingRefusals, listed, listing}
 
-staged : (s : List ℕ) → listing s ≡ listed s (unless (readCauses s) (unless (boundCauses s) (Given (supportOn s))))
-unfolding listing
-staged s = ap (listed s) (unless-append (readCauses s) (boundCauses s) (Given (supportOn s)))
+pub listing-staged : (s : List ℕ) → listing s ≡ listed s (unless (readCauses s) (unless (boundCauses s) (Given (supportOn s))))
+unfolding listing listingRefusals
+listing-staged s = ap (listed s) (unless-append (readCauses s) (boundCauses s) (Given (supportOn s)))
 
 -- a sheet that the reader refuses
 pub listing-unread : (s : List ℕ) {n p : ℕ} → summaryRead s ≡ Refused n p → refusedLine n p ≡ listing s
 unfolding listed
-listing-unread s e = ap (listed s) (refused-whatever (readCauses s) (summaryOf s) (sym e) _) ∙ sym (staged s)
+listing-unread s e = ap (listed s) (refused-whatever (readCauses s) (summaryOf s) (sym e) _) ∙ sym (listing-staged s)
 
 module _ (s : List ℕ) {x : Summary} (e : summaryRead s ≡ Given x) where
   abbrev many : ℕ
   many = total (startOf s) (supportOn s)
 
   told : (a : Answer (List ℕ)) → a ≡ unless (boundCauses s) (Given (supportOn s)) → listed s a ≡ listing s
-  told a h = ap (listed s) (h ∙ was-read s e _) ∙ sym (staged s)
+  told a h = ap (listed s) (h ∙ was-read s e _) ∙ sym (listing-staged s)
 
   -- refusal 9
   pub listing-refused : boundOf s < many → refusedLine 9 many ≡ listing s
@@ -44,12 +40,3 @@ module _ (s : List ℕ) {x : Summary} (e : summaryRead s ≡ Given x) where
       → planLines (x .header .units) (x .steps) (x .header .bound) (x .header .start) (supportOn s) many ≡ listing s
   unfolding listed
   listing-planned h = rw (units-are s e, sym (many-steps s e), bound-is s e, start-is s e) (told (Given (supportOn s)) (in-bound s e h (Given (supportOn s))))
-
--- the listing lies within the output, so that it can be lent as a part of it
-pub listing-within : (s out : List ℕ) {r : ℕ} {after : List ℕ} → _≡_ {A = ℕ × List ℕ} (r, after) (listPlan s out)
-    → (r ≤ length after) × (r ≡ length (take r after))
-listing-within s out {r} {after} h =
-    let count : r ≡ length (listing s) = ap (λ (y : ℕ × List ℕ). y .0) h in
-    let text : after ≡ written (listing s) out = ap (λ (y : ℕ × List ℕ). y .1) h in
-    let within : r ≤ length after = omega (arith, ap length text, length-append (listing s) (drop (length (listing s)) out)) in
-    (within, sym (length-take-le r after within))

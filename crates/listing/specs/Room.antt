@@ -1,0 +1,20 @@
+-- The most bytes of a line of a listing, and of a listing.
+use Prim.Native.Nat.{ℕ, _+_, _*_}
+use Rattle.format.specs.Format.{recordLimit}
+
+-- the first line, with three numbers of 32 bits; that of a step; the last; and that of a refusal
+abbrev pub firstMost : ℕ
+firstMost = 51
+
+abbrev pub stepMost : ℕ
+stepMost = 24
+
+abbrev pub totalMost : ℕ
+totalMost = 17
+
+abbrev pub refusedMost : ℕ
+refusedMost = 30
+
+-- a listing has a first line, a line for each step, which are as many as a sheet has records at the most, and a last line
+abbrev pub longestListing : ℕ
+longestListing = firstMost + recordLimit * stepMost + totalMost
