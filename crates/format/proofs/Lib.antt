@@ -3,5 +3,6 @@
 pub mod Agreements
 pub mod Answers
 pub mod Chains
+pub mod Examples
 pub mod Readings
 pub mod Records

@@ -1,8 +1,9 @@
 -- Read in this order: `Numbers` in bytes, the `Format` of header and records, what an `Answer` is, the walk along the `Chain`, and the `Reading` of a whole
--- sheet. `Stages` says the same of the reader's stages, and `Agreement` which sheets differ in nothing that counts.
+-- sheet. `Stages` says the same of the reader's stages, `Agreement` which sheets differ in nothing that counts, and `Examples` has sheets written out.
 pub mod Agreement
 pub mod Answer
 pub mod Chain
+pub mod Examples
 pub mod Format
 pub mod Numbers
 pub mod Reading

@@ -1,0 +1,23 @@
+-- The worked examples of the reader hold: each row is computed from the definitions.
+use mathlib.Core.Path.{refl}
+use lib.Count.{ones, onesIn}
+use Rattle.units.specs.Limits.{hasFeasible}
+use Rattle.units.specs.Sets.{intersection, isSubset, size, hasUnitFrom}
+use Rattle.format.specs.Answer.{unless}
+use Rattle.format.specs.Chain.{following, chainOf, isIn, linkCauses}
+use Rattle.format.specs.Examples.{bytesOf, headerBytes, recordBytes, recordsFrom, sheetOf, All, faults, pairsOfFaults, campaigns}
+use Rattle.format.specs.Format.{stepOf, nextOf}
+use Rattle.format.specs.Numbers.{byteAt, u16At, u32At, u64At}
+use Rattle.format.specs.Reading.{same, stepsCauses, readCauses, campaignOf}
+
+pub faults-refused : All faults
+unfolding hasFeasible intersection isSubset size hasUnitFrom unless following chainOf isIn linkCauses bytesOf headerBytes recordBytes recordsFrom sheetOf stepOf nextOf byteAt u16At u32At u64At same stepsCauses readCauses campaignOf ones onesIn faults
+faults-refused = (refl, (refl, (refl, (refl, (refl, (refl, (refl, (refl, (refl, (refl, (refl, (refl, (refl, (refl, (refl, (refl, tt))))))))))))))))
+
+pub first-fault-refused : All pairsOfFaults
+unfolding hasFeasible intersection isSubset size hasUnitFrom unless following chainOf isIn linkCauses bytesOf headerBytes recordBytes recordsFrom sheetOf stepOf nextOf byteAt u16At u32At u64At same stepsCauses readCauses campaignOf ones onesIn pairsOfFaults
+first-fault-refused = (refl, (refl, (refl, (refl, (refl, (refl, (refl, (refl, (refl, (refl, (refl, (refl, tt))))))))))))
+
+pub campaigns-read : All campaigns
+unfolding hasFeasible intersection isSubset size hasUnitFrom unless following chainOf isIn linkCauses bytesOf headerBytes recordBytes recordsFrom sheetOf stepOf nextOf byteAt u16At u32At u64At same stepsCauses readCauses campaignOf ones onesIn campaigns
+campaigns-read = (refl, (refl, tt))
