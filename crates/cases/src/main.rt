@@ -11,7 +11,8 @@ use trials::layout::put_head;
 use trials::layout::put_limits;
 use trials::layout::put_link;
 use trials::layout::put_most_steps;
-ghost use Prim.Native.Nat.{_≤_, _<_};
+ghost use Prim.Native.Nat.{_+_, _≤_, _<_};
+ghost use Rattle.format.specs.Format.{recordSize, longest};
 
 // The bytes of a sheet with one record.
 const ONE_RECORD: usize = Sheet::HEADER_SIZE + Sheet::RECORD_SIZE;
@@ -53,7 +54,7 @@ fn write_refusal(number: u64, place: u64) {
 
 // Writes a line: the name of a sheet, and what the reader answers to so many bytes of it.
 fn report(name: &[u8], bytes: &Space, length: usize)
-    requires { ⌜ length ≤ 6192 ⌝ }
+    requires { ⌜ length ≤ longest + recordSize ⌝ }
 {
     let whole: &[u8] = bytes;
     io::write_all(STDOUT_FILENO, name);
@@ -87,7 +88,8 @@ fn report_upper(name: &[u8], units: usize, upper: u64)
 }
 
 fn main() {
+    let most = Sheet::UNIT_LIMIT as usize;
     report_lengths();
-    report_upper(b"d = 64, upper all ones", 64, u64::MAX);
-    report_upper(b"d = 63, unit 63 in upper", 63, 1 << 63);
+    report_upper(b"d = 64, upper all ones", most, u64::MAX);
+    report_upper(b"d = 63, unit 63 in upper", most - 1, 1 << (most - 1));
 }

@@ -1,23 +1,25 @@
 // Tries the listing on sheets whose text is written out by hand (a refusal for the bound, no bytes, no step, and a full sheet with numbers of the most
 // digits), and writes how often it was right.
+use sheet::Sheet;
 use trials::layout::Head;
-use trials::layout::LONGEST;
 use trials::layout::Limits;
 use trials::layout::SPACE;
 use trials::layout::Space;
+use trials::layout::length_of;
 use trials::layout::put_head;
 use trials::layout::put_limits;
 use trials::layout::put_link;
 use trials::layout::put_most_steps;
 use trials::tally::Tally;
-ghost use Prim.Native.Nat.{_≤_, _<_};
+ghost use Prim.Native.Nat.{_+_, _*_, _≤_, _<_};
 ghost use lib.ListN.{length};
+ghost use Rattle.format.specs.Format.{recordSize, recordLimit, longest};
 
 type Text = [u8; listing::LONGEST];
 
 // Whether the listing of the first bytes is that text.
 fn has_listing(bytes: &Space, length: usize, expected: &[u8]) -> bool
-    requires { ⌜ length ≤ 6192 ⌝ }
+    requires { ⌜ length ≤ longest + recordSize ⌝ }
 {
     let whole: &[u8] = bytes;
     let mut text = [0u8; listing::LONGEST];
@@ -43,12 +45,12 @@ fn try_no_step() -> Tally {
             start: 0,
         },
     );
-    Tally::of(has_listing(&bytes, 24, b"units 1 steps 0 bound 0\ntotal 0\n"))
+    Tally::of(has_listing(&bytes, length_of(0), b"units 1 steps 0 bound 0\ntotal 0\n"))
 }
 
 // Puts into record j a step that needs one of three units and allows two, and its link.
 fn put_run(bytes: &mut Space, j: usize, lower: u64, next: usize)
-    requires { ⌜ j ≤ 256 ⌝ }
+    requires { ⌜ j ≤ recordLimit ⌝ }
     requires { ⌜ next < 65536 ⌝ }
 {
     put_limits(
@@ -64,7 +66,7 @@ fn put_run(bytes: &mut Space, j: usize, lower: u64, next: usize)
     put_link(bytes, j, next);
 }
 
-// Tries four runs that need three warm-ups, with a bound of two (bench B2).
+// Tries four runs that need three switches, with a bound of two (bench B2).
 fn try_bound() -> Tally {
     let mut bytes = [0u8; SPACE];
     put_head(
@@ -81,10 +83,10 @@ fn try_bound() -> Tally {
     put_run(&mut bytes, 2, 2, 3);
     put_run(&mut bytes, 3, 4, 4);
     put_run(&mut bytes, 4, 1, 0);
-    Tally::of(has_listing(&bytes, 120, b"refused 9 3\n"))
+    Tally::of(has_listing(&bytes, length_of(4), b"refused 9 3\n"))
 }
 
-// ---- a full sheet: the two halves of 64 units are on in turns, so that each step has 32 warm-ups
+// ---- a full sheet: the two halves of 64 units are on in turns, so that each step has 32 switches
 
 // The limits of a step that allows one set.
 fn just(set: u64) -> Limits {
@@ -92,7 +94,7 @@ fn just(set: u64) -> Limits {
         lower: set,
         upper: set,
         least: 0,
-        greatest: 64,
+        greatest: Sheet::UNIT_LIMIT as u8,
     }
 }
 
@@ -100,18 +102,18 @@ fn put_halves(bytes: &mut Space) {
     put_head(
         bytes,
         Head {
-            units: 64,
-            records: 256,
-            bound: 65535,
+            units: Sheet::UNIT_LIMIT as usize,
+            records: Sheet::RECORD_LIMIT,
+            bound: u16::MAX as usize,
             start: 0,
         },
     );
-    put_most_steps(bytes, just(4294967295), just(18446744069414584320));
+    put_most_steps(bytes, just(u64::MAX >> 32), just(u64::MAX << 32));
 }
 
 // Whether the line stands in the text at that place.
 fn is_at(text: &Text, at: usize, line: &[u8]) -> bool
-    requires { ⌜ at ≤ 6175 ⌝ }
+    requires { ⌜ at ≤ 31 + 24 * recordLimit ⌝ }
     requires { ⌜ length (now line) ≤ 31 ⌝ }
 {
     let whole: &[u8] = text;
@@ -149,7 +151,7 @@ fn line_of(step: usize) -> [u8; 24] {
 
 // Whether the text has the line of that step at that place.
 fn has_line(text: &Text, at: usize, step: usize) -> bool
-    requires { ⌜ at ≤ 6175 ⌝ }
+    requires { ⌜ at ≤ 31 + 24 * recordLimit ⌝ }
 {
     let line = line_of(step);
     let from = left_out(step);
@@ -158,7 +160,7 @@ fn has_line(text: &Text, at: usize, step: usize) -> bool
 
 // Whether the text has the total at that place.
 fn has_total(text: &Text, at: usize) -> bool
-    requires { ⌜ at ≤ 6175 ⌝ }
+    requires { ⌜ at ≤ 31 + 24 * recordLimit ⌝ }
 {
     is_at(text, at, b"total 8192\n")
 }
@@ -167,7 +169,7 @@ fn has_total(text: &Text, at: usize) -> bool
 fn has_lines(text: &Text) -> bool {
     let mut at = 31;
     let mut step = 1;
-    while step <= 256 {
+    while step <= Sheet::RECORD_LIMIT {
         if !has_line(text, at, step) {
             return false;
         }
@@ -181,7 +183,7 @@ fn has_lines(text: &Text) -> bool {
 fn has_wide_listing(bytes: &Space) -> bool {
     let whole: &[u8] = bytes;
     let mut text = [0u8; listing::LONGEST];
-    let count = listing::list_plan(&whole[0..LONGEST], &mut text);
+    let count = listing::list_plan(&whole[0..Sheet::LONGEST], &mut text);
     let first = is_at(&text, 0, b"units 64 steps 256 bound 65535\n");
     count == 6078 && first && has_lines(&text)
 }

@@ -1,14 +1,13 @@
-// The bytes of a sheet, put where docs/FORMAT.md has them.
+// The bytes of a sheet, put where docs/FORMAT.md has them. The sizes, places and letters are those of `Sheet`; nothing else of the reader is used.
+use sheet::Sheet;
 ghost use mathlib.Core.Path.{_≡_};
-ghost use Prim.Native.Nat.{_+_, _*_, _≤_, _<_, _^_};
+ghost use Prim.Native.Nat.{_+_, _≤_, _<_, _^_};
+ghost use Rattle.format.specs.Format.{recordSize, recordLimit, sheetLength, longest};
 
 // Room for the longest sheet and a record more.
-pub type Space = [u8; 6192];
+pub const SPACE: usize = Sheet::LONGEST + Sheet::RECORD_SIZE;
 
-pub const SPACE: usize = 6192;
-
-// The bytes of the longest sheet.
-pub const LONGEST: usize = 6168;
+pub type Space = [u8; SPACE];
 
 // The numbers of a header but for the number of its first record.
 pub struct Head {
@@ -28,23 +27,23 @@ pub struct Limits {
 
 // The length of a sheet of that many records.
 pub fn length_of(records: usize) -> usize
-    requires { ⌜ records ≤ 256 ⌝ }
-    ensures { λ r. ⌜ r ≡ 24 * (records + 1) ⌝ }
-    ensures { λ r. ⌜ r ≤ 6168 ⌝ }
+    requires { ⌜ records ≤ recordLimit ⌝ }
+    ensures { λ r. ⌜ r ≡ sheetLength records ⌝ }
+    ensures { λ r. ⌜ r ≤ longest ⌝ }
 {
-    24 * (records + 1)
+    Sheet::HEADER_SIZE + Sheet::RECORD_SIZE * records
 }
 
 // Puts a byte at that place.
 fn put_byte(bytes: &mut Space, at: usize, value: u8)
-    requires { ⌜ at < 6192 ⌝ }
+    requires { ⌜ at < longest + recordSize ⌝ }
 {
     bytes[at] = value;
 }
 
 // Puts a number of two bytes, the lower first.
 fn put_u16(bytes: &mut Space, at: usize, value: usize)
-    requires { ⌜ at + 2 ≤ 6192 ⌝ }
+    requires { ⌜ at + 2 ≤ longest + recordSize ⌝ }
     requires { ⌜ value < 65536 ⌝ }
 {
     put_byte(bytes, at, (value % 256) as u8);
@@ -53,7 +52,7 @@ fn put_u16(bytes: &mut Space, at: usize, value: usize)
 
 // Puts a number of four bytes, the lower first.
 fn put_u32(bytes: &mut Space, at: usize, value: usize)
-    requires { ⌜ at + 4 ≤ 6192 ⌝ }
+    requires { ⌜ at + 4 ≤ longest + recordSize ⌝ }
     requires { ⌜ value < 2 ^ 32 ⌝ }
 {
     put_u16(bytes, at, value % 65536);
@@ -62,7 +61,7 @@ fn put_u32(bytes: &mut Space, at: usize, value: usize)
 
 // Puts a set, of eight bytes.
 fn put_set(bytes: &mut Space, at: usize, units: u64)
-    requires { ⌜ at + 8 ≤ 6192 ⌝ }
+    requires { ⌜ at + 8 ≤ longest + recordSize ⌝ }
 {
     put_u32(bytes, at, (units % 4294967296) as usize);
     put_u32(bytes, at + 4, (units / 4294967296) as usize);
@@ -74,38 +73,40 @@ pub fn put_head(bytes: &mut Space, head: Head)
     requires { ⌜ head .records < 65536 ⌝ }
     requires { ⌜ head .bound < 65536 ⌝ }
 {
-    put_byte(bytes, 0, b'W');
-    put_byte(bytes, 1, b'A');
-    put_byte(bytes, 2, b'R');
-    put_byte(bytes, 3, b'M');
-    put_byte(bytes, 4, 1);
-    put_byte(bytes, 5, head.units as u8);
-    put_u16(bytes, 6, head.records);
-    put_u16(bytes, 8, 0);
-    put_u16(bytes, 10, head.bound);
-    put_u32(bytes, 12, 0);
-    put_set(bytes, 16, head.start);
+    let letters = Sheet::LETTERS;
+    put_byte(bytes, 0, letters[0]);
+    put_byte(bytes, 1, letters[1]);
+    put_byte(bytes, 2, letters[2]);
+    put_byte(bytes, 3, letters[3]);
+    put_byte(bytes, Sheet::EDITION_AT, Sheet::EDITION as u8);
+    put_byte(bytes, Sheet::UNITS_AT, head.units as u8);
+    put_u16(bytes, Sheet::RECORDS_AT, head.records);
+    put_u16(bytes, Sheet::FIRST_AT, 0);
+    put_u16(bytes, Sheet::BOUND_AT, head.bound);
+    put_u32(bytes, Sheet::RESERVED_AT, 0);
+    put_set(bytes, Sheet::START_AT, head.start);
 }
 
 // Puts the limits of a step into record j.
 pub fn put_limits(bytes: &mut Space, j: usize, limits: Limits)
-    requires { ⌜ j ≤ 256 ⌝ }
+    requires { ⌜ j ≤ recordLimit ⌝ }
 {
-    put_set(bytes, 24 * j, limits.lower);
-    put_set(bytes, 24 * j + 8, limits.upper);
-    put_byte(bytes, 24 * j + 16, limits.least);
-    put_byte(bytes, 24 * j + 17, limits.greatest);
+    let at = Sheet::RECORD_SIZE * j;
+    put_set(bytes, at, limits.lower);
+    put_set(bytes, at + Sheet::UPPER_AT, limits.upper);
+    put_byte(bytes, at + Sheet::LEAST_AT, limits.least);
+    put_byte(bytes, at + Sheet::GREATEST_AT, limits.greatest);
 }
 
 // Puts the number of the record after a record, or of the first record where the holder is 0, for the header.
 pub fn put_link(bytes: &mut Space, holder: usize, next: usize)
-    requires { ⌜ holder ≤ 256 ⌝ }
+    requires { ⌜ holder ≤ recordLimit ⌝ }
     requires { ⌜ next < 65536 ⌝ }
 {
     if holder == 0 {
-        put_u16(bytes, 8, next);
+        put_u16(bytes, Sheet::FIRST_AT, next);
     } else {
-        put_u16(bytes, 24 * holder + 18, next);
+        put_u16(bytes, Sheet::RECORD_SIZE * holder + Sheet::NEXT_AT, next);
     }
 }
 
@@ -117,13 +118,13 @@ fn in_turn(k: usize, odd: Limits, even: Limits) -> Limits {
     even
 }
 
-// Puts 256 steps into the records 1 to 256, with two kinds of limits in turns.
+// Puts a step into each record of the longest sheet, in the order of the records, with two kinds of limits in turns.
 pub fn put_most_steps(bytes: &mut Space, odd: Limits, even: Limits) {
     let mut k = 0;
-    while k < 256 {
+    while k < Sheet::RECORD_LIMIT {
         put_link(bytes, k, k + 1);
         k += 1;
         put_limits(bytes, k, in_turn(k, odd, even));
     }
-    put_link(bytes, 256, 0);
+    put_link(bytes, Sheet::RECORD_LIMIT, 0);
 }

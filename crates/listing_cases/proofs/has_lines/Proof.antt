@@ -1,14 +1,15 @@
--- `listing_cases::has_lines` is safe and ends: each of 256 steps has at most 24 bytes.
+-- `listing_cases::has_lines` is safe and ends: each step has at most 24 bytes.
 use Prim.Native.Nat.{_+_, _-_, _*_, _≤_}
 use borrow.Author.Needs.{needs}
+use Rattle.format.specs.Format.{recordLimit}
 use Rattle.listing_cases.proofs.has_lines.Statement.{statement}
 use Rattle.listing_cases.proofs.has_lines.Tie as tie
 
 abbrev Inv-loop : tie.InvT-loop
-Inv-loop text at₀ step₀ at step = (step ≤ 257) × (at + 24 ≤ 31 + 24 * step)
+Inv-loop text at₀ step₀ at step = (step ≤ recordLimit + 1) × (at + 24 ≤ 31 + 24 * step)
 
 abbrev μ-loop : tie.MeasureT-loop
-μ-loop text at₀ step₀ at step = 257 - step
+μ-loop text at₀ step₀ at step = recordLimit + 1 - step
 
 loop-holds : tie.Need-loop-holds Inv-loop μ-loop
 loop-holds c = search needs

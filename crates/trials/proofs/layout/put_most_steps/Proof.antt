@@ -1,14 +1,15 @@
--- `trials::layout::put_most_steps` is safe and ends: k counts up to 256.
+-- `trials::layout::put_most_steps` is safe and ends: k counts up to the most records.
 use Prim.Native.Nat.{_≤_, _-_}
 use borrow.Author.Needs.{needs}
+use Rattle.format.specs.Format.{recordLimit}
 use Rattle.trials.proofs.layout.put_most_steps.Statement.{statement}
 use Rattle.trials.proofs.layout.put_most_steps.Tie as tie
 
 abbrev Inv-loop : tie.InvT-loop
-Inv-loop bytes₀ odd even k₀ bytes k = k ≤ 256
+Inv-loop bytes₀ odd even k₀ bytes k = k ≤ recordLimit
 
 abbrev μ-loop : tie.MeasureT-loop
-μ-loop bytes₀ odd even k₀ bytes k = 256 - k
+μ-loop bytes₀ odd even k₀ bytes k = recordLimit - k
 
 loop-holds : tie.Need-loop-holds Inv-loop μ-loop
 loop-holds c = search needs
