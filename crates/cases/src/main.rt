@@ -88,8 +88,7 @@ fn report_upper(name: &[u8], units: usize, upper: u64)
 }
 
 fn main() {
-    let most = Sheet::UNIT_LIMIT as usize;
     report_lengths();
-    report_upper(b"d = 64, upper all ones", most, u64::MAX);
-    report_upper(b"d = 63, unit 63 in upper", most - 1, 1 << (most - 1));
+    report_upper(b"d = 64, upper all ones", 64, u64::MAX);
+    report_upper(b"d = 63, unit 63 in upper", 63, 1 << 63);
 }

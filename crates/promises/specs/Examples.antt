@@ -1,13 +1,11 @@
--- Worked examples: sheets written out, and what an entry replies on each and leaves in the lent memory. One statement, `Holds` of every row, is
--- proved in proofs/Examples.antt from the definitions alone.
-use Prim.Native.Nat.{ℕ, zero, suc, _+_, _/_, _%_}
+-- Worked examples: what an entry replies on a sheet and leaves in the lent memory. One statement, `Holds` of every row, is proved in proofs/Examples.antt from
+-- the definitions alone. specs/Examples.antt of `format` has how sheets are written out, and what the reader says of sheets with every fault.
+use Prim.Native.Nat.{ℕ}
 use mathlib.Core.Path.{_≡_}
 use mathlib.Core.List.{List, [], _∷_, _++_}
-use lib.ListN.{length}
+use lib.ListN.{set}
 use Rattle.format.specs.declared.Step.{Step}
-use Rattle.format.specs.Format.{letters, edition}
-use Rattle.plans.specs.Rows.{limits}
-use Rattle.plans.specs.declared.Limits.{Limits}
+use Rattle.format.specs.Examples.{sheetOf, tagged, step, noStep, oneRecord, tagsAndSpare}
 use Rattle.promises.specs.declared.Reply.{Reply}
 use Rattle.promises.specs.declared.StepsReply.{StepsReply}
 use Rattle.promises.specs.Common.{refusedReply, fullReply}
@@ -18,57 +16,21 @@ use Rattle.promises.specs.Verdict.{warmVerdict}
 
 -- ---- sheets
 
--- the k bytes of a number, the lowest first
-unfoldable pub bytesOf : ℕ → ℕ → List ℕ
-bytesOf zero n = []
-bytesOf (suc k) n = n % 256 ∷ bytesOf k (n / 256)
-
--- a header of d units and r records, with the number of the first record, the bound and the start set
-unfoldable pub headerBytes : ℕ → ℕ → ℕ → ℕ → ℕ → List ℕ
-headerBytes d r first bound start =
-    letters ++ (edition ∷ d ∷ []) ++ bytesOf 2 r ++ bytesOf 2 first ++ bytesOf 2 bound ++ bytesOf 4 0 ++ bytesOf 8 start
-
--- a record with tag 0: its sets, its least and greatest number, and the number of the next record
-unfoldable pub recordBytes : ℕ → ℕ → ℕ → ℕ → ℕ → List ℕ
-recordBytes lower upper least greatest next = bytesOf 8 lower ++ bytesOf 8 upper ++ (least ∷ greatest ∷ []) ++ bytesOf 2 next ++ bytesOf 4 0
-
--- the records of some steps in their order, of which the first is record j
-unfoldable pub recordsFrom : ℕ → List Limits → List ℕ
-recordsFrom j [] = []
-recordsFrom j (x ∷ []) = recordBytes (x .lower) (x .upper) (x .least) (x .greatest) 0
-recordsFrom j (x ∷ y ∷ xs) = recordBytes (x .lower) (x .upper) (x .least) (x .greatest) (j + 1) ++ recordsFrom (j + 1) (y ∷ xs)
-
--- a sheet of d units with a bound, a start set and some steps, at least one, in the order of the records
-unfoldable pub sheetOf : ℕ → ℕ → ℕ → List Limits → List ℕ
-sheetOf d bound start xs = headerBytes d (length xs) 1 bound start ++ recordsFrom 1 xs
-
 -- Four runs (B1 to B4 and B10), with a bound and a start set: of three units, 0, 1, 2 and 0 must be on in the four steps, and at most two may be.
 abbrev pub fourRuns : ℕ → ℕ → List ℕ
-fourRuns bound start = sheetOf 3 bound start (limits 1 7 0 2 ∷ limits 2 7 0 2 ∷ limits 4 7 0 2 ∷ limits 1 7 0 2 ∷ [])
-
--- A sheet of one unit and no step (B5).
-abbrev pub noStep : List ℕ
-noStep = headerBytes 1 0 0 0 0
+fourRuns bound start = sheetOf 3 bound start (step 1 7 0 2 ∷ step 2 7 0 2 ∷ step 4 7 0 2 ∷ step 1 7 0 2 ∷ [])
 
 -- Two units, bound 1, and one step in which just k of them must be on: one (B6), or three, which is more than there are (B7).
 abbrev pub justSome : ℕ → List ℕ
-justSome k = sheetOf 2 1 0 (limits 0 3 k k ∷ [])
-
--- A record that names itself (B8): one unit, and one record without limits whose next is 1.
-abbrev pub selfNamed : List ℕ
-selfNamed = headerBytes 1 1 1 0 0 ++ recordBytes 0 1 0 1 1
-
--- A first record that is not there (B9): one unit and one record, and the first is record 2.
-abbrev pub noSuchFirst : List ℕ
-noSuchFirst = headerBytes 1 1 2 0 0 ++ recordBytes 0 1 0 1 0
+justSome k = sheetOf 2 1 0 (step 0 3 k k ∷ [])
 
 -- Two units, of which just one must be on in the first step. Which it is depends on the start set and on what comes after.
-abbrev pub oneOfTwo : ℕ → List Limits → List ℕ
-oneOfTwo start after = sheetOf 2 2 start (limits 0 3 1 1 ∷ after)
+abbrev pub oneOfTwo : ℕ → List Step → List ℕ
+oneOfTwo start after = sheetOf 2 2 start (step 0 3 1 1 ∷ after)
 
 -- a later step of two units that asks for a lower set and allows an upper set
-abbrev asks : ℕ → ℕ → Limits
-asks lower upper = limits lower upper 0 2
+abbrev asks : ℕ → ℕ → Step
+asks lower upper = step lower upper 0 2
 
 -- ---- the table
 
@@ -96,9 +58,12 @@ refusedSteps n p = record { refusal = n; place = p; units = 0; steps = 0; bound 
 
 -- a place of a list, with what it holds before a call
 abbrev nineStep : Step
-nineStep = record { lower = 9; upper = 9; least = 9; greatest = 9; tag = 9 }
+nineStep = tagged 9 9 9 9 9
 
--- an output of five places
+-- outputs of three and of five places
+abbrev threeNines : List ℕ
+threeNines = 9 ∷ 9 ∷ 9 ∷ []
+
 abbrev nines : List ℕ
 nines = 9 ∷ 9 ∷ 9 ∷ 9 ∷ 9 ∷ []
 
@@ -112,10 +77,28 @@ benches =
     ∷ plan noStep [] (fullReply 0 0) []
     ∷ plan (justSome 1) (9 ∷ []) (fullReply 1 0) (1 ∷ [])
     ∷ steps (justSome 3) (nineStep ∷ []) (refusedSteps 7 1) (nineStep ∷ [])
-    ∷ steps selfNamed (nineStep ∷ []) (refusedSteps 5 1) (nineStep ∷ [])
-    ∷ steps noSuchFirst [] (refusedSteps 4 0) []
+    ∷ steps (oneRecord 1 1) (nineStep ∷ []) (refusedSteps 5 1) (nineStep ∷ [])
+    ∷ steps (oneRecord 2 0) [] (refusedSteps 4 0) []
     ∷ verdict (fourRuns 3 0) (1 ∷ 2 ∷ 4 ∷ 1 ∷ []) (fullReply 4 0)
     ∷ verdict (fourRuns 4 0) (1 ∷ 2 ∷ 4 ∷ 1 ∷ []) (fullReply 4 1)
+    ∷ []
+
+-- The refusals that no bench has: 1, 2, 3 and 6 of the reader, one from each entry, and 8 and 10. Where an output is too short and the bound too low, it is 8. And
+-- the steps of a sheet with tags, a chain that goes back and a record off the chain.
+unfoldable pub replies : List Example
+replies =
+    steps [] (nineStep ∷ []) (refusedSteps 1 0) (nineStep ∷ [])
+    ∷ plan (set noStep 4 2) nines (refusedReply 2 4) nines
+    ∷ chart (noStep ++ (0 ∷ [])) nines threeNines (refusedReply 3 24) nines threeNines
+    ∷ verdict (sheetOf 2 1 0 (step 0 3 0 1 ∷ step 0 4 0 1 ∷ [])) nines (refusedReply 6 2)
+    ∷ steps tagsAndSpare (nineStep ∷ []) (refusedSteps 8 2) (nineStep ∷ [])
+    ∷ plan (fourRuns 2 0) threeNines (refusedReply 8 4) threeNines
+    ∷ chart (fourRuns 3 0) nines threeNines (refusedReply 8 4) nines threeNines
+    ∷ chart (fourRuns 3 0) threeNines nines (refusedReply 8 4) threeNines nines
+    ∷ verdict (fourRuns 3 0) threeNines (refusedReply 10 4)
+    ∷ verdict (fourRuns 3 0) nines (refusedReply 10 4)
+    ∷ steps tagsAndSpare (nineStep ∷ nineStep ∷ nineStep ∷ []) (record { refusal = 0; place = 0; units = 3; steps = 2; bound = 515; reserved = 0; start = 5 })
+    (tagged 2 3 1 2 4294967295 ∷ tagged 1 7 0 2 67305985 ∷ nineStep ∷ [])
     ∷ []
 
 -- Which plan it is, where several have the fewest switches. Both units wanted, in one step: the lower number joins, and stays; in two steps: the
@@ -134,5 +117,5 @@ choices =
     ∷ plan (oneOfTwo 3 (asks 0 2 ∷ asks 0 0 ∷ [])) (9 ∷ 9 ∷ 9 ∷ []) (fullReply 0 0) (2 ∷ 2 ∷ 0 ∷ [])
     ∷ plan (oneOfTwo 3 (asks 0 2 ∷ [])) (9 ∷ 9 ∷ []) (fullReply 0 0) (2 ∷ 2 ∷ [])
     ∷ plan (oneOfTwo 3 (asks 0 2 ∷ asks 1 3 ∷ [])) (9 ∷ 9 ∷ 9 ∷ []) (fullReply 1 0) (2 ∷ 2 ∷ 3 ∷ [])
-    ∷ plan (sheetOf 3 1 6 (limits 1 7 0 1 ∷ [])) (9 ∷ []) (fullReply 1 0) (1 ∷ [])
+    ∷ plan (sheetOf 3 1 6 (step 1 7 0 1 ∷ [])) (9 ∷ []) (fullReply 1 0) (1 ∷ [])
     ∷ []
