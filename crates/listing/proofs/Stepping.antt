@@ -10,6 +10,7 @@ use Rattle.plans.specs.Switch.{switches}
 use Rattle.promises.specs.Digits.{decimal, hexadecimal}
 use Rattle.promises.specs.Listing.{field, blank, lineEnd, stepLine, stepLines}
 use Rattle.listing.specs.Placed.{Placed}
+use Rattle.listing.specs.Room.{stepMost}
 use Rattle.listing.proofs.Numerals.{decimal-width, hexadecimal-length}
 use Rattle.listing.proofs.Places.{placed-then, placed-none, placed-as}
 
@@ -19,8 +20,8 @@ dropped [] (suc i) h = refl
 dropped (x ∷ l) zero h = absurd (omega (arith, h))
 dropped (x ∷ l) (suc i) h = dropped l i (omega (arith, h))
 
--- a line has at most 24 bytes
-line-width : (i x many : ℕ) → i < 1000 → many < 100 → length (stepLine i x many) ≤ 24
+-- a line has no more bytes than there is room for
+line-width : (i x many : ℕ) → i < 1000 → many < 100 → length (stepLine i x many) ≤ stepMost
 unfolding stepLine
 line-width i x many h k =
     omega (
@@ -39,7 +40,7 @@ pub record Stepping (start : ℕ) (plan out₀ : List ℕ) (at i before : ℕ) (
   pub text : List ℕ
   pub placed : Placed text out₀ at out next
   pub left : text ++ stepLines (i + 1) before (drop i plan) ≡ stepLines 1 start plan
-  pub room : length text ≤ 24 * i
+  pub room : length text ≤ stepMost * i
 
 pub started : (start : ℕ) (plan out₀ : List ℕ) (at : ℕ) → at ≤ length out₀ → Stepping start plan out₀ at 0 start out₀ at
 started start plan out₀ at h = record { text = []; placed = placed-none h; left = refl; room = omega arith }

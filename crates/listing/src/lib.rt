@@ -12,7 +12,6 @@ use lines::put_first_line;
 use lines::put_refused_line;
 use lines::put_step_lines;
 use lines::put_total_line;
-use plans::Limits;
 use sheet::ReadAnswer;
 use sheet::Sheet;
 ghost use mathlib.Core.Path.{_≡_};
@@ -26,7 +25,7 @@ ghost use Rattle.promises.specs.Listing.{planLines, listing, listPlan};
 ghost use Rattle.listing.specs.Room.{longestListing};
 ghost use Rattle.listing.specs.Placed.{Placed};
 
-// No listing is longer: a first line, at most 256 lines of steps, and a last line.
+// No listing is longer: a first line, a line for each step of the longest sheet, and a last line.
 pub const LONGEST: usize = FIRST_LINE + Sheet::RECORD_LIMIT * STEP_LINE + TOTAL_LINE;
 
 // Puts the lines of a plan, which stands in the first places of `sets`, with its total, and gives their length.
@@ -70,7 +69,7 @@ pub fn list_plan(sheet: &[u8], out: &mut [u8; LONGEST]) -> usize
     match sheet::open::read(sheet) {
         ReadAnswer::Refused(x) => put_refused_line(x.number, x.place, out, 0),
         ReadAnswer::Read(x) => {
-            let mut rows = [0u64; Limits::WORDS * Sheet::RECORD_LIMIT];
+            let mut rows = [0u64; Sheet::STEP_WORDS];
             let mut sets = [0u64; Sheet::RECORD_LIMIT];
             list_read(sheet, x, &mut rows, &mut sets, out)
         }

@@ -13,7 +13,7 @@ ghost use Rattle.promises.specs.Listing.{firstLine, stepLine, stepLines, totalL
 ghost use Rattle.listing.specs.Room.{firstMost, stepMost, totalMost, refusedMost};
 ghost use Rattle.listing.specs.Placed.{Placed};
 
-// The most bytes of the line of a listing: the first, with three numbers of 32 bits, that of a step, the last, and that of a refusal.
+// The most bytes of a line of a listing: the first, with three numbers of 32 bits, that of a step, and the last.
 pub(crate) const FIRST_LINE: usize = 51;
 
 pub(crate) const STEP_LINE: usize = 24;

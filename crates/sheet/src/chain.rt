@@ -20,6 +20,7 @@ pub struct Walk {
     pub steps: usize,
 }
 
+// What the chain says: a refusal of 4 or 5, or the number of records on it, which is that of the steps (n, in docs/FORMAT.md).
 pub enum ChainAnswer {
     Refused(Refusal),
     Ended(u32),

@@ -15,6 +15,7 @@ ghost use Rattle.format.specs.Reading.{same, headerCauses};
 ghost use Rattle.format.specs.Stages.{headerRead};
 ghost use Rattle.sheet.specs.Told.{headerTold};
 
+// What the header says: a refusal of 1 to 3, or its numbers.
 pub enum HeaderAnswer {
     Refused(Refusal),
     Good(Header),

@@ -15,6 +15,7 @@ use chain::Walk;
 use format::Header;
 use format::Refusal;
 use format::Summary;
+use plans::Limits;
 ghost use mathlib.Core.Path.{_≡_};
 ghost use Rattle.sheet.specs.Walking.{atHeader};
 
@@ -34,6 +35,7 @@ impl<'a> Sheet<'a> {
     // The letters that a sheet begins with.
     pub const LETTERS: [u8; 4] = *b"WARM";
 
+    // The edition of the format.
     pub const EDITION: u64 = 1;
     // Bytes of the header and of a record.
     pub const HEADER_SIZE: usize = 24;
@@ -67,8 +69,10 @@ impl<'a> Sheet<'a> {
     pub const NEXT_AT: usize = 18;
 
     pub const TAG_AT: usize = 20;
-    // The longest sheet.
+    // Bytes of the longest sheet.
     pub const LONGEST: usize = Sheet::RECORD_SIZE * (Sheet::RECORD_LIMIT + 1);
+    // Words of the steps of such a sheet, once they are decoded.
+    pub const STEP_WORDS: usize = Limits::WORDS * Sheet::RECORD_LIMIT;
 
     // The walk along the chain, before its first link: at the header, with no record met.
     pub fn open_walk() -> Walk

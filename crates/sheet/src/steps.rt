@@ -37,17 +37,16 @@ pub fn search_steps(s: &[u8], x: Summary) -> ReadAnswer
     let header = x.header;
     let mut at = 0;
     let mut i = 0;
-    let mut number = 0;
-    'search: loop {
+    let first_fault = 'search: loop {
         if i == x.steps {
             return ReadAnswer::Read(x);
         }
         at = follow(s, at);
-        number = fault(step_at(s, at), header.units);
+        let number = fault(step_at(s, at), header.units);
         i += 1;
         if number != 0 {
-            break 'search;
+            break 'search Refusal { number, place: i };
         }
-    }
-    ReadAnswer::Refused(Refusal { number, place: i })
+    };
+    ReadAnswer::Refused(first_fault)
 }

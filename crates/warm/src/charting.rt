@@ -1,5 +1,4 @@
 // The chart: refusals 1 to 9, or the units that can be on and those that can be off in each step, over all plans that meet the sheet.
-use super::WORDS;
 use super::refused;
 use campaign::plan_read;
 use chart::whole::draw_whole;
@@ -78,7 +77,7 @@ pub extern "C" fn warm_chart(sheet: &[u8], on: &mut [u64], off: &mut [u64]) -> R
             if off.len() < x.steps as usize {
                 return refused(8, x.steps);
             }
-            let mut rows = [0u64; WORDS];
+            let mut rows = [0u64; Sheet::STEP_WORDS];
             let mut sets = [0u64; Sheet::RECORD_LIMIT];
             hand_out_chart(sheet, x, &mut rows, &mut sets, on, off)
         }

@@ -1,10 +1,10 @@
 // The verdict on a plan made elsewhere: refusals 1 to 7 and 10, or yes or no and the plan's total.
-use super::WORDS;
 use super::refused;
 use campaign::check_read;
 use format::Summary;
 use promises::Reply;
 use sheet::ReadAnswer;
+use sheet::Sheet;
 ghost use mathlib.Core.Path.{_≡_};
 ghost use mathlib.Core.Bool.{cond, _&&_};
 ghost use lib.Dec.{leb};
@@ -60,7 +60,7 @@ pub extern "C" fn warm_verdict(sheet: &[u8], plan: &[u64]) -> Reply
             if plan.len() != x.steps as usize {
                 return refused(10, x.steps);
             }
-            let mut rows = [0u64; WORDS];
+            let mut rows = [0u64; Sheet::STEP_WORDS];
             judge(sheet, x, &mut rows, plan)
         }
     }

@@ -5,11 +5,9 @@ pub mod judging;
 pub mod planning;
 
 use format::Step;
-use plans::Limits;
 use promises::Reply;
 use promises::StepsReply;
 use sheet::ReadAnswer;
-use sheet::Sheet;
 ghost use mathlib.Core.Path.{_≡_};
 ghost use mathlib.Core.List.{_++_};
 ghost use Prim.Native.Nat.{_≤_};
@@ -18,9 +16,6 @@ ghost use Rattle.format.specs.Answer.{Refused};
 ghost use Rattle.format.specs.Chain.{Inside, stepsFrom};
 ghost use Rattle.promises.specs.Steps.{stepsAnswer, stepsReply, warmSteps};
 ghost use Rattle.promises.specs.Common.{refusedReply};
-
-// The words of the steps of the longest sheet.
-pub(crate) const WORDS: usize = Limits::WORDS * Sheet::RECORD_LIMIT;
 
 // A refusal.
 pub(crate) fn refused(number: u32, place: u32) -> Reply

@@ -1,5 +1,4 @@
 // The plan: refusals 1 to 9, or FindSupport's plan and its total.
-use super::WORDS;
 use super::refused;
 use campaign::plan_read;
 use format::Summary;
@@ -55,7 +54,7 @@ fn hand_out(sheet: &[u8], x: Summary, rows: &mut [u64], sets: &mut [u64], plan: 
     }
 }
 
-// The plan of a sheet with the fewest warm-ups, into the first places of the output.
+// The plan of a sheet with the fewest switches, into the first places of the output.
 #[no_mangle]
 pub extern "C" fn warm_plan(sheet: &[u8], plan: &mut [u64]) -> Reply
     ensures { λ r. ⌜ (r, now (plan .exit)) ≡ warmPlan (now (sheet .entry)) (now (plan .entry)) ⌝ }
@@ -66,7 +65,7 @@ pub extern "C" fn warm_plan(sheet: &[u8], plan: &mut [u64]) -> Reply
             if plan.len() < x.steps as usize {
                 return refused(8, x.steps);
             }
-            let mut rows = [0u64; WORDS];
+            let mut rows = [0u64; Sheet::STEP_WORDS];
             let mut sets = [0u64; Sheet::RECORD_LIMIT];
             hand_out(sheet, x, &mut rows, &mut sets, plan)
         }

@@ -1,10 +1,10 @@
 -- `forward::checkpoint` meets its contract. The loop's invariant: the rows before each block stand up to the k-th block.
 use mathlib.Core.Path.{_≡_, refl}
-use Prim.Native.Nat.{_+_, _*_, _-_, _≤_, _<_}
+use Prim.Native.Nat.{_+_, _*_, _-_, _/_, _≤_, _<_}
 use native.Mathlib.Omega.{arith}
 use denote.Ref.{now}
 use lib.ListN.{length}
-use Rattle.plans.specs.Rows.{stepsIn}
+use Rattle.plans.specs.Rows.{stepLimit, stepsIn}
 use Rattle.tables.specs.Tables.{rowCount}
 use Rattle.forward.specs.Kept.{blockSize}
 use Rattle.forward.proofs.Blocks.{CheckpointsTo, checkpoints-begun, checkpoints-on, kept-copied}
@@ -13,13 +13,13 @@ use Rattle.forward.proofs.checkpoint.Tie as tie
 
 abbrev Inv-loop : tie.InvT-loop
 Inv-loop steps plan start rows₀ checkpoints₀ k₀ rows checkpoints k =
-    (k ≤ 16) × ((length rows ≡ length rows₀) × ((length checkpoints ≡ length checkpoints₀) × CheckpointsTo start (stepsIn steps) plan k checkpoints))
+    (k ≤ stepLimit / blockSize) × ((length rows ≡ length rows₀) × ((length checkpoints ≡ length checkpoints₀) × CheckpointsTo start (stepsIn steps) plan k checkpoints))
 
 abbrev μ-loop : tie.MeasureT-loop
 μ-loop steps plan start rows₀ checkpoints₀ k₀ rows checkpoints k = length plan - k
 
--- there are sixteen blocks at the most
-small : (c : tie.In-loop Inv-loop μ-loop) → c .before .loop .k < 16
+-- there are no more blocks than the most steps make
+small : (c : tie.In-loop Inv-loop μ-loop) → c .before .loop .k < stepLimit / blockSize
 small c = omega (arith, c .loop-test .taken, c .before .before .before .before .before .before .pre .1 .0, c .before .before .before .before .before .before .pre .0 .few)
 
 loop-holds : tie.Need-loop-holds Inv-loop μ-loop

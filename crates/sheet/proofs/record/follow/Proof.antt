@@ -3,6 +3,7 @@ use mathlib.Core.Path.{sym, ap, _∙_}
 use Prim.Native.Nat.{ℕ, _+_}
 use borrow.Author.Needs.{needs}
 use denote.Ref.{now}
+use Rattle.format.specs.Format.{nextAt}
 use Rattle.format.specs.Numbers.{u16At}
 use Rattle.format.proofs.Records.{next-first, next-after}
 use Rattle.sheet.proofs.record.follow.Statement.{statement}
@@ -28,7 +29,7 @@ u16-at-requires-2 c κs = search needs
 returns-2 : tie.Need-returns-2
 returns-2 c =
     let a = c .before .before .before .before .args in
-    (c .u16-at2 .ensures .0 ∙ ap (λ (at : ℕ). u16At (now (a .s)) (at + 18)) (c .before .record-offset .ensures) ∙ sym (next-after (now (a .s)) (a .j) (c .before .before .if1 .left)), search needs)
+    (c .u16-at2 .ensures .0 ∙ ap (λ (at : ℕ). u16At (now (a .s)) (at + nextAt)) (c .before .record-offset .ensures) ∙ sym (next-after (now (a .s)) (a .j) (c .before .before .if1 .left)), search needs)
 
 pub follow-spec : {M : Type 1} → statement M
 follow-spec =

@@ -4,7 +4,7 @@ use mathlib.Core.List.{List}
 use Prim.Native.Nat.{ℕ, _+_}
 use denote.Ref.{now}
 use lib.ListN.{getD}
-use Rattle.format.specs.Format.{recordOffset, stepOf}
+use Rattle.format.specs.Format.{upperAt, leastAt, greatestAt, tagAt, recordOffset, stepOf}
 use Rattle.format.specs.Numbers.{byteAt, u32At, u64At}
 use borrow.Author.Needs.{needs}
 use Rattle.sheet.proofs.record.step_at.Statement.{statement}
@@ -44,8 +44,8 @@ cast-t15 : tie.Need-cast-t15
 cast-t15 c = search needs
 
 -- the step, from its numbers as they were read
-made : (s : List ℕ) (j : ℕ) {at lower upper tag : ℕ} → at ≡ recordOffset j → lower ≡ u64At s at → upper ≡ u64At s (at + 8) → tag ≡ u32At s (at + 20)
-    → record { lower = lower; upper = upper; least = getD s (at + 16) 0; greatest = getD s (at + 17) 0; tag = tag } ≡ stepOf s j
+made : (s : List ℕ) (j : ℕ) {at lower upper tag : ℕ} → at ≡ recordOffset j → lower ≡ u64At s at → upper ≡ u64At s (at + upperAt) → tag ≡ u32At s (at + tagAt)
+    → record { lower = lower; upper = upper; least = getD s (at + leastAt) 0; greatest = getD s (at + greatestAt) 0; tag = tag } ≡ stepOf s j
 unfolding stepOf byteAt
 made s j o l u t = rw (l, u, t, o)
 

@@ -12,10 +12,10 @@ use Rattle.sheet.proofs.steps.search_steps.Statement.{statement}
 use Rattle.sheet.proofs.steps.search_steps.Tie as tie
 
 abbrev Inv-search : tie.InvT-search
-Inv-search s x header at₀ i₀ number₀ at i number = Searched s x at i
+Inv-search s x header at₀ i₀ at i = Searched s x at i
 
 abbrev μ-search : tie.MeasureT-search
-μ-search s x header at₀ i₀ number₀ at i number = x .steps - i
+μ-search s x header at₀ i₀ at i = x .steps - i
 
 -- there is a step more
 more : (c : tie.Else1 Inv-search μ-search) → c .before .before .search .i < c .before .before .before .before .before .args .x .steps
