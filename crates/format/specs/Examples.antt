@@ -53,9 +53,9 @@ noStep = headerBytes 1 0 0 0 0
 abbrev pub oneRecord : ℕ → ℕ → List ℕ
 oneRecord first next = headerBytes 1 1 first 0 0 ++ recordBytes (step 0 1 0 1) next
 
--- two steps with tags, the first of them in record 2 and the last in record 1; record 3 is spare
-abbrev pub tagsAndSpare : List ℕ
-tagsAndSpare = headerBytes 3 3 2 515 5 ++ recordBytes (tagged 1 7 0 2 67305985) 0 ++ recordBytes (tagged 2 3 1 2 4294967295) 1 ++ replicate 24 255
+-- two steps with tags, the first of them in record 2 and the last in record 1; record 3 is unused
+abbrev pub tagsAndUnused : List ℕ
+tagsAndUnused = headerBytes 3 3 2 515 5 ++ recordBytes (tagged 1 7 0 2 67305985) 0 ++ recordBytes (tagged 2 3 1 2 4294967295) 1 ++ replicate 24 255
 
 -- two units, and two steps that allow at most one of them to be on, but for a fault that a step may have: a unit that is not there, or no feasible set
 abbrev sound : Step
@@ -130,5 +130,5 @@ pairsOfFaults =
 unfoldable pub campaigns : List Example
 campaigns =
     row noStep (Given (record { units = 1; bound = 0; start = 0; steps = [] }))
-    ∷ row tagsAndSpare (Given (record { units = 3; bound = 515; start = 5; steps = tagged 2 3 1 2 4294967295 ∷ tagged 1 7 0 2 67305985 ∷ [] }))
+    ∷ row tagsAndUnused (Given (record { units = 3; bound = 515; start = 5; steps = tagged 2 3 1 2 4294967295 ∷ tagged 1 7 0 2 67305985 ∷ [] }))
     ∷ []

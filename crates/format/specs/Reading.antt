@@ -53,10 +53,11 @@ stepsCauses d i (x ∷ xs) = stepCauses d i x ++ stepsCauses d (i + 1) xs
 
 -- ---- the whole sheet
 
--- the records on the chain, and the steps that they hold
+-- the records on the chain; the others are unused (spare records, in docs/FORMAT.md)
 abbrev pub recordsOn : List ℕ → List ℕ
 recordsOn s = chainOf s (recordsOf s)
 
+-- the steps that they hold, in chain order; how many they are is n, in docs/FORMAT.md
 abbrev pub stepsOf : List ℕ → List Step
 stepsOf s = map (stepOf s) (recordsOn s)
 

@@ -15,7 +15,7 @@ pub struct Header {
     pub start: u64,
 }
 
-// What a sheet says, but for its steps themselves: how many they are stands for them.
+// What a sheet says, but for its steps themselves: how many they are (n, in docs/FORMAT.md) stands for them.
 pub struct Summary {
     pub header: Header,
     pub steps: u32,

@@ -69,7 +69,7 @@ module _ {S : Type 0} (test : S → ℕ → Bool) where
   plansOf d [] = [] ∷ []
   plansOf d (s ∷ ss) = prefixed (select (test s) (below (2 ^ d))) (plansOf d ss)
 
-  -- the fewest switches of any feasible plan
+  -- the fewest switches of any feasible plan (fewest, in docs/FORMAT.md)
   unfoldable pub fewest : ℕ → ℕ → List S → ℕ
   fewest d start ss = leastOf (map (total start) (plansOf d ss))
 

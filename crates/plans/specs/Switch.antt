@@ -18,7 +18,7 @@ Throughout A [] (x ∷ xs) = ⊥
 Throughout A (s ∷ ss) [] = ⊥
 Throughout A (s ∷ ss) (x ∷ xs) = A s x × Throughout A ss xs
 
--- each set of the plan is feasible in its step
+-- each set of the plan is feasible in its step (a fit plan, in docs/FORMAT.md)
 abbrev pub FeasiblePlan : List Limits → List ℕ → Type 0
 FeasiblePlan ss p = Throughout Allows ss p
 

@@ -136,10 +136,10 @@ demand-2-plan s out handed = go (exactly .decided)
         record {
           support = words;
           accepted =
-            ap (warmVerdict s) words
-            ∙ sym (ap judged (verdict-given s (supportOn s) e (plan-length-on s)))
-            ∙ ap (fullReply (total (startOf s) (supportOn s))) (accepts-exactly s (supportOn s) .1 (best .0, omega (arith, best .1 .0)))
-            ∙ sym (ap (λ (r : Reply × List ℕ). fullReply (r .0 .total) 1) reply);
+              ap (warmVerdict s) words
+              ∙ sym (ap judged (verdict-given s (supportOn s) e (plan-length-on s)))
+              ∙ ap (fullReply (total (startOf s) (supportOn s))) (accepts-exactly s (supportOn s) .1 (best .0, omega (arith, best .1 .0)))
+              ∙ sym (ap (λ (r : Reply × List ℕ). fullReply (r .0 .total) 1) reply);
         }
 
 -- ---- demand 3: any sheet that passes the checks, with outputs that have a place for every step

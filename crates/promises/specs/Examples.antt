@@ -5,7 +5,7 @@ use mathlib.Core.Path.{_≡_}
 use mathlib.Core.List.{List, [], _∷_, _++_}
 use lib.ListN.{set}
 use Rattle.format.specs.declared.Step.{Step}
-use Rattle.format.specs.Examples.{sheetOf, tagged, step, noStep, oneRecord, tagsAndSpare}
+use Rattle.format.specs.Examples.{sheetOf, tagged, step, noStep, oneRecord, tagsAndUnused}
 use Rattle.promises.specs.declared.Reply.{Reply}
 use Rattle.promises.specs.declared.StepsReply.{StepsReply}
 use Rattle.promises.specs.Common.{refusedReply, fullReply}
@@ -91,13 +91,13 @@ replies =
     ∷ plan (set noStep 4 2) nines (refusedReply 2 4) nines
     ∷ chart (noStep ++ (0 ∷ [])) nines threeNines (refusedReply 3 24) nines threeNines
     ∷ verdict (sheetOf 2 1 0 (step 0 3 0 1 ∷ step 0 4 0 1 ∷ [])) nines (refusedReply 6 2)
-    ∷ steps tagsAndSpare (nineStep ∷ []) (refusedSteps 8 2) (nineStep ∷ [])
+    ∷ steps tagsAndUnused (nineStep ∷ []) (refusedSteps 8 2) (nineStep ∷ [])
     ∷ plan (fourRuns 2 0) threeNines (refusedReply 8 4) threeNines
     ∷ chart (fourRuns 3 0) nines threeNines (refusedReply 8 4) nines threeNines
     ∷ chart (fourRuns 3 0) threeNines nines (refusedReply 8 4) threeNines nines
     ∷ verdict (fourRuns 3 0) threeNines (refusedReply 10 4)
     ∷ verdict (fourRuns 3 0) nines (refusedReply 10 4)
-    ∷ steps tagsAndSpare (nineStep ∷ nineStep ∷ nineStep ∷ []) (record { refusal = 0; place = 0; units = 3; steps = 2; bound = 515; reserved = 0; start = 5 })
+    ∷ steps tagsAndUnused (nineStep ∷ nineStep ∷ nineStep ∷ []) (record { refusal = 0; place = 0; units = 3; steps = 2; bound = 515; reserved = 0; start = 5 })
     (tagged 2 3 1 2 4294967295 ∷ tagged 1 7 0 2 67305985 ∷ nineStep ∷ [])
     ∷ []
 
