@@ -13,24 +13,13 @@ use Rattle.units.specs.Sets.{hasUnitFrom}
 use Rattle.format.specs.declared.Header.{Header}
 use Rattle.format.specs.declared.Step.{Step}
 use Rattle.format.specs.declared.Summary.{Summary}
-use Rattle.format.specs.Answer.{Answer, Refused, Given, unless, First, here, later}
+use Rattle.format.specs.Answer.{Answer, Refused, Given, unless}
 use Rattle.format.specs.Chain.{following, chainOf, linkCauses, Inside, stepsFrom}
-use Rattle.format.specs.Format.{unitLimit, recordLimit, recordsAt, sheetLength, unitsOf, recordsOf, header, nextOf, stepOf}
+use Rattle.format.specs.Format.{unitLimit, recordLimit, sheetLength, unitsOf, recordsOf, header, nextOf, stepOf}
 use Rattle.format.specs.Reading.{formCauses, headerCauses, stepCauses, stepsCauses, recordsOn, stepsOf, openCauses, readCauses}
 use Rattle.format.specs.Stages.{headerRead, chainRead, summaryOf, openRead, summaryRead}
 use Rattle.format.proofs.Answers.{none-left, unless-append, given-same, passed-first, all-passed, unless-given, refused-whatever, Numbered, numbered-append}
 use Rattle.format.proofs.Chains.{Met, met-none, met-more, met-room}
-
--- ---- which of two faults is refused
-
--- too many records, whatever the bytes that are zero and all that comes after them
-pub records-first : (s : List ℕ) → eqb (unitsOf s) 0 ≡ false → ltb unitLimit (unitsOf s) ≡ false → ltb recordLimit (recordsOf s) ≡ true
-    → First (headerCauses s) 3 recordsAt
-records-first s some few many = later some (later few (here many))
-
--- a unit that is not there, whether or not a set is feasible
-pub foreign-first : (d i : ℕ) (x : Step) → hasUnitFrom (x .upper) d ≡ true → First (stepCauses d i x) 6 i
-foreign-first d i x foreign = here foreign
 
 -- ---- the header
 
