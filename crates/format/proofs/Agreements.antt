@@ -6,7 +6,7 @@ use Prim.Native.Nat.{ℕ, zero, suc, _+_, _*_, _≤_, _<_, min}
 use native.Mathlib.Nat.{add-assoc, add-zero, zero-add}
 use native.Mathlib.Decide.{ℕ-discrete}
 use native.Mathlib.Omega.{arith}
-use lib.ListN.{length, length-take, take}
+use lib.ListN.{length-take, take}
 use lib.Seq.{ext-getD, getD-take}
 use borrow.Author.Tests.{ltb-false}
 use Rattle.format.specs.declared.Step.{Step}
@@ -15,7 +15,7 @@ use Rattle.format.specs.Answer.{Answer, Given, unless}
 use Rattle.format.specs.Chain.{following, chainOf, linkCauses}
 use Rattle.format.specs.Format.{headerSize, editionAt, unitsAt, recordsAt, firstAt, boundAt, reservedAt, startAt, upperAt, leastAt, greatestAt, nextAt, tagAt, recordOffset, lettersOf, unitsOf, recordsOf, boundOf, startOf, nextOf, stepOf}
 use Rattle.format.specs.Numbers.{byteAt, u16At, u32At, u64At}
-use Rattle.format.specs.Reading.{formCauses, headerCauses, stepCauses, stepsCauses, recordsOn, stepsOf, openCauses, readCauses, Campaign, campaignOf}
+use Rattle.format.specs.Reading.{formCauses, headerCauses, stepCauses, stepsCauses, recordsOn, stepsOf, openCauses, Campaign, campaignOf}
 use Rattle.format.proofs.Answers.{past-first}
 use Rattle.format.proofs.Chains.{follow-ends, follow-on}
 use Rattle.format.proofs.Readings.{open-staged, read-staged}

@@ -5,7 +5,7 @@ use mathlib.Core.Bool.{Bool, true, false, cond}
 use mathlib.Core.List.{List, [], _∷_, _++_, map}
 use Prim.Native.Nat.{ℕ, zero, suc, _+_, _≤_, _<_}
 use native.Mathlib.Omega.{arith}
-use lib.Dec.{eqb, ltb}
+use lib.Dec.{eqb}
 use lib.ListN.{length, length-map, length-append}
 use borrow.Author.Tests.{ltb-false, eqb-false, eqb-true, not-false}
 use Rattle.units.specs.Limits.{hasFeasible}
@@ -16,7 +16,7 @@ use Rattle.format.specs.declared.Summary.{Summary}
 use Rattle.format.specs.Answer.{Answer, Refused, Given, unless}
 use Rattle.format.specs.Chain.{following, chainOf, linkCauses, Inside, stepsFrom}
 use Rattle.format.specs.Format.{unitLimit, recordLimit, sheetLength, unitsOf, recordsOf, header, nextOf, stepOf}
-use Rattle.format.specs.Reading.{formCauses, headerCauses, stepCauses, stepsCauses, recordsOn, stepsOf, openCauses, readCauses}
+use Rattle.format.specs.Reading.{formCauses, headerCauses, stepsCauses, recordsOn, stepsOf, openCauses, readCauses}
 use Rattle.format.specs.Stages.{headerRead, chainRead, summaryOf, openRead, summaryRead}
 use Rattle.format.proofs.Answers.{none-left, unless-append, given-same, passed-first, all-passed, unless-given, refused-whatever, Numbered, numbered-append}
 use Rattle.format.proofs.Chains.{Met, met-none, met-more, met-room}

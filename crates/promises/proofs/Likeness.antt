@@ -19,7 +19,7 @@ use Rattle.promises.specs.Common.{limitsOn, placesCauses, fullReply}
 use Rattle.promises.specs.Plan.{fewestOn, supportOn, boundCauses, planned, warmPlan}
 use Rattle.promises.specs.Chart.{onWords, offWords, charted, warmChart}
 use Rattle.promises.specs.Listing.{planLines, listed, listing}
-use Rattle.promises.specs.Verdict.{wordsCauses, accepts, judged, warmVerdict}
+use Rattle.promises.specs.Verdict.{accepts, judged, warmVerdict}
 use Rattle.promises.specs.Steps.{stepsAnswer, stepsReply, stepsWritten}
 use Rattle.promises.proofs.Listings.{listing-staged}
 use Rattle.promises.proofs.Plans.{plan-staged}
