@@ -10,14 +10,9 @@ use Rattle.format.specs.Format.{stepOf, nextOf}
 use Rattle.format.specs.Numbers.{byteAt, u16At, u32At, u64At}
 use Rattle.format.specs.Reading.{same, stepsCauses, readCauses, campaignOf}
 
-pub faults-refused : All faults
-unfolding hasFeasible intersection isSubset size hasUnitFrom unless following chainOf isIn linkCauses bytesOf headerBytes recordBytes recordsFrom sheetOf stepOf nextOf byteAt u16At u32At u64At same stepsCauses readCauses campaignOf ones onesIn faults
-faults-refused = (refl, (refl, (refl, (refl, (refl, (refl, (refl, (refl, (refl, (refl, (refl, (refl, (refl, (refl, (refl, (refl, tt))))))))))))))))
-
-pub first-fault-refused : All pairsOfFaults
-unfolding hasFeasible intersection isSubset size hasUnitFrom unless following chainOf isIn linkCauses bytesOf headerBytes recordBytes recordsFrom sheetOf stepOf nextOf byteAt u16At u32At u64At same stepsCauses readCauses campaignOf ones onesIn pairsOfFaults
-first-fault-refused = (refl, (refl, (refl, (refl, (refl, (refl, (refl, (refl, (refl, (refl, (refl, (refl, tt))))))))))))
-
-pub campaigns-read : All campaigns
-unfolding hasFeasible intersection isSubset size hasUnitFrom unless following chainOf isIn linkCauses bytesOf headerBytes recordBytes recordsFrom sheetOf stepOf nextOf byteAt u16At u32At u64At same stepsCauses readCauses campaignOf ones onesIn campaigns
-campaigns-read = (refl, (refl, tt))
+pub readings-hold : All faults × (All pairsOfFaults × All campaigns)
+unfolding hasFeasible intersection isSubset size hasUnitFrom unless following chainOf isIn linkCauses bytesOf headerBytes recordBytes recordsFrom sheetOf stepOf nextOf byteAt u16At u32At u64At same stepsCauses readCauses campaignOf ones onesIn faults pairsOfFaults campaigns
+readings-hold = (
+  (refl, (refl, (refl, (refl, (refl, (refl, (refl, (refl, (refl, (refl, (refl, (refl, (refl, (refl, (refl, (refl, tt)))))))))))))))),
+  ((refl, (refl, (refl, (refl, (refl, (refl, (refl, (refl, (refl, (refl, (refl, (refl, tt)))))))))))), (refl, (refl, tt))),
+)

@@ -18,14 +18,9 @@ use Rattle.promises.specs.Chart.{onWords, offWords, charted, warmChart}
 use Rattle.promises.specs.Verdict.{verdictRefusals, accepts, judged, warmVerdict}
 use Rattle.promises.specs.Examples.{All, benches, replies, choices}
 
-pub benches-hold : All benches
-unfolding hasFeasible bit union intersection difference contains insert remove isSubset size unitsBelow hasUnitFrom unless following chainOf isIn linkCauses stepOf nextOf byteAt u16At u32At u64At same stepsCauses readCauses campaignOf select below allows isFeasible prefixed plansOf leastOf fewest plansWithin joined joinedAll canBeOn canBeOff nextRequired nextForbidden requiredFirst ranksBefore firstIn taken supportSet supportFrom findSupport switches total stepsRefusals stepsReply stepsWritten warmSteps fewestOn supportOn planRefusals planned warmPlan onWords offWords charted warmChart verdictRefusals accepts judged warmVerdict bytesOf headerBytes recordBytes recordsFrom sheetOf ones onesIn benches
-benches-hold = (refl, (refl, (refl, (refl, (refl, (refl, (refl, (refl, (refl, (refl, (refl, tt)))))))))))
-
-pub replies-hold : All replies
-unfolding hasFeasible bit union intersection difference contains insert remove isSubset size unitsBelow hasUnitFrom unless following chainOf isIn linkCauses stepOf nextOf byteAt u16At u32At u64At same stepsCauses readCauses campaignOf select below allows isFeasible prefixed plansOf leastOf fewest plansWithin joined joinedAll canBeOn canBeOff nextRequired nextForbidden requiredFirst ranksBefore firstIn taken supportSet supportFrom findSupport switches total stepsRefusals stepsReply stepsWritten warmSteps fewestOn supportOn planRefusals planned warmPlan onWords offWords charted warmChart verdictRefusals accepts judged warmVerdict bytesOf headerBytes recordBytes recordsFrom sheetOf ones onesIn replies
-replies-hold = (refl, (refl, (refl, (refl, (refl, (refl, (refl, (refl, (refl, (refl, (refl, tt)))))))))))
-
-pub choices-hold : All choices
-unfolding hasFeasible bit union intersection difference contains insert remove isSubset size unitsBelow hasUnitFrom unless following chainOf isIn linkCauses stepOf nextOf byteAt u16At u32At u64At same stepsCauses readCauses campaignOf select below allows isFeasible prefixed plansOf leastOf fewest plansWithin joined joinedAll canBeOn canBeOff nextRequired nextForbidden requiredFirst ranksBefore firstIn taken supportSet supportFrom findSupport switches total stepsRefusals stepsReply stepsWritten warmSteps fewestOn supportOn planRefusals planned warmPlan onWords offWords charted warmChart verdictRefusals accepts judged warmVerdict bytesOf headerBytes recordBytes recordsFrom sheetOf ones onesIn choices
-choices-hold = (refl, (refl, (refl, (refl, (refl, (refl, (refl, (refl, (refl, (refl, (refl, (refl, tt))))))))))))
+pub examples-hold : All benches × (All replies × All choices)
+unfolding hasFeasible bit union intersection difference contains insert remove isSubset size unitsBelow hasUnitFrom unless following chainOf isIn linkCauses stepOf nextOf byteAt u16At u32At u64At same stepsCauses readCauses campaignOf select below allows isFeasible prefixed plansOf leastOf fewest plansWithin joined joinedAll canBeOn canBeOff nextRequired nextForbidden requiredFirst ranksBefore firstIn taken supportSet supportFrom findSupport switches total stepsRefusals stepsReply stepsWritten warmSteps fewestOn supportOn planRefusals planned warmPlan onWords offWords charted warmChart verdictRefusals accepts judged warmVerdict bytesOf headerBytes recordBytes recordsFrom sheetOf ones onesIn benches replies choices
+examples-hold = (
+  (refl, (refl, (refl, (refl, (refl, (refl, (refl, (refl, (refl, (refl, (refl, tt))))))))))),
+  ((refl, (refl, (refl, (refl, (refl, (refl, (refl, (refl, (refl, (refl, (refl, tt))))))))))), (refl, (refl, (refl, (refl, (refl, (refl, (refl, (refl, (refl, (refl, (refl, (refl, tt))))))))))))),
+)
