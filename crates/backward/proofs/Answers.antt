@@ -18,26 +18,27 @@ loose-is false true dispensable b h = contains-in all b (bit-all b h)
 loose-is tight false dispensable b h = contains-empty b
 
 module _ (tight : Bool) (s : Limits) (t : ℕ) (turns : ℕ → ℕ) (w : Later) {many fr : ℕ} (count : many ≡ size t) (rest : fr ≡ difference (s .upper) t) where
-  -- the units that can be on
-  pub on-read : {able joining joined : ℕ} → able ≡ cond tight (w .saves) all
+  -- the units that can be on, from the sets on the way to them
+  pub on-read : {able joining joined some others r : ℕ} → able ≡ cond tight (w .saves) all
       → joining ≡ cond (ltb many (s .greatest)) able 0 → joined ≡ gathered rowCount (difference t (s .lower)) (inPlace tight turns w)
-      → union t (intersection fr (union joining joined)) ≡ onWord tight s t turns w
+      → some ≡ union joining joined → others ≡ intersection fr some → r ≡ union t others → r ≡ onWord tight s t turns w
   unfolding onWord free held more
-  on-read a b c = rw (b, a, c, count, rest)
+  on-read a b c d e f = rw (f, e, d, b, a, c, count, rest)
 
   -- the units that can be off
-  pub off-read : (us : ℕ) {able loose passed : ℕ} → able ≡ cond tight (w .dispensable) all → loose ≡ cond (ltb (s .least) many) able 0
+  pub off-read : (us : ℕ) {able loose passed absent may others r : ℕ} → able ≡ cond tight (w .dispensable) all → loose ≡ cond (ltb (s .least) many) able 0
       → (hd : ℕ) → hd < 2 ^ 64 → hd ≡ difference t (s .lower) → passed ≡ passing rowCount hd (λ b. meets (inPlace tight turns w b) fr)
-      → union (difference us t) (union (intersection hd loose) passed) ≡ offWord tight us s t turns w
+      → absent ≡ difference us t → may ≡ intersection hd loose → others ≡ union may passed → r ≡ union absent others → r ≡ offWord tight us s t turns w
   unfolding offWord free held less
-  off-read us {able} {loose} {passed} a b hd word here c =
-      ap (union (difference us t))
+  off-read us {loose = loose} a b hd word here c d e f g =
+      rw (g, f, e, d)
+      (ap (union (difference us t))
       (ap (union (intersection hd loose)) c
       ∙ passing-loose hd loose (λ u. meets (inPlace tight turns w u) fr) word
       ∙ ap (λ (x : ℕ). passing rowCount x (λ u. contains loose u || meets (inPlace tight turns w u) fr)) here
       ∙ passing-same 64 (difference t (s .lower)) (λ u. contains loose u || meets (inPlace tight turns w u) fr)
       (λ u. (ltb (s .least) (size t) && (not tight || contains (w .dispensable) u)) || meets (inPlace tight turns w u) (difference (s .upper) t))
-      (λ u h e. ap₂ _||_ (left u h) (ap (meets (inPlace tight turns w u)) rest)))
+      (λ u h e. ap₂ _||_ (left u h) (ap (meets (inPlace tight turns w u)) rest))))
     where
       left : (u : ℕ) → u < 64 → contains loose u ≡ (ltb (s .least) (size t) && (not tight || contains (w .dispensable) u))
       left u h = rw (b, a, count) (loose-is tight (ltb (s .least) (size t)) (w .dispensable) u h)

@@ -1,10 +1,9 @@
 -- `backward::read_words` meets its contract: what it joins is what the definitions of the words join.
-use mathlib.Core.Path.{ap, ap₂, _∙_}
+use mathlib.Core.Path.{ap, _∙_}
 use Prim.Native.Nat.{ℕ}
 use native.Mathlib.Omega.{arith}
 use borrow.Author.Needs.{needs}
 use denote.Ref.{now}
-use Rattle.units.specs.Sets.{union, intersection}
 use Rattle.tables.specs.Places.{rowsIn, laterIn}
 use Rattle.tables.specs.Tables.{rowCount, gathered, inPlace}
 use Rattle.backward.proofs.Answers.{on-read, off-read}
@@ -70,12 +69,10 @@ returns c =
     let held = c .before .before .before .before .before .before .before .before .before .before .before .before .before .before .before .difference2 in
     let many = c .before .before .before .before .before .before .before .before .before .before .before .before .before .before .size .ensures in
     let found = c .before .before .before .before .before .before .before .find-places in (
-      c .before .before .before .before .union2 .ensures ∙ ap (union (x .after)) (c .before .before .before .before .before .intersection .ensures ∙ ap (intersection _) (c .before .before .before .before .before .before .union .ensures))
-          ∙ on-read (a .tight) (x .limits) (x .after) turns w many free (c .before .before .before .before .before .before .before .before .before .before .before .before .choose .ensures) (c .before .before .before .before .before .before .before .before .before .before .before .choose2 .ensures)
-          (found .ensures .0 ∙ ap (λ (y : ℕ). gathered rowCount y (inPlace (a .tight) turns w)) (held .ensures)),
-      c .union4 .ensures ∙ ap₂ union (c .before .before .before .difference3 .ensures) (c .before .union3 .ensures ∙ ap (λ (y : ℕ). union y (found .result .passed)) (c .before .before .intersection2 .ensures))
-          ∙ off-read (a .tight) (x .limits) (x .after) turns w many free (a .us) (c .before .before .before .before .before .before .before .before .before .choose3 .ensures) (c .before .before .before .before .before .before .before .before .choose4 .ensures) (held .result)
-          (omega (arith, held .ok)) (held .ensures) (found .ensures .1),
+      on-read (a .tight) (x .limits) (x .after) turns w many free (c .before .before .before .before .before .before .before .before .before .before .before .before .choose .ensures) (c .before .before .before .before .before .before .before .before .before .before .before .choose2 .ensures)
+          (found .ensures .0 ∙ ap (λ (y : ℕ). gathered rowCount y (inPlace (a .tight) turns w)) (held .ensures)) (c .before .before .before .before .before .before .union .ensures) (c .before .before .before .before .before .intersection .ensures) (c .before .before .before .before .union2 .ensures),
+      off-read (a .tight) (x .limits) (x .after) turns w many free (a .us) (c .before .before .before .before .before .before .before .before .before .choose3 .ensures) (c .before .before .before .before .before .before .before .before .choose4 .ensures) (held .result)
+          (omega (arith, held .ok)) (held .ensures) (found .ensures .1) (c .before .before .before .difference3 .ensures) (c .before .before .intersection2 .ensures) (c .before .union3 .ensures) (c .union4 .ensures),
     )
 
 pub read-words-spec : {M : Type 1} → statement M

@@ -1,9 +1,9 @@
 -- `listing::lines::put_step_lines` meets its contract: `Stepping` has the laws of its loop.
-use mathlib.Core.Path.{sym, ap, _∙_}
+use mathlib.Core.Path.{_≡_, sym, ap, _∙_}
 use Prim.Native.Nat.{_-_, _≤_, _<_}
 use native.Mathlib.Omega.{arith}
 use lib.ListN.{length}
-use Rattle.units.specs.Sets.{size}
+use Rattle.units.specs.Sets.{difference, size}
 use Rattle.plans.specs.Switch.{switches}
 use Rattle.units.proofs.Sets.{size-below}
 use Rattle.listing.proofs.Places.{placed-length}
@@ -62,7 +62,8 @@ loop-again c =
     let l = c .before .before .before .before .before .before .before .before .loop in
     let h = c .before .before .before .before .before .before .before .loop-test .taken in
     let p = c .before .before .before .before .before .before .before .before .before .before .before .pre in
-    let many = c .before .before .before .before .size .ensures ∙ ap size (c .before .before .before .before .before .difference .ensures) in
+    let many : c .before .before .before .before .size .result ≡ size (difference _ (l .before)) =
+    c .before .before .before .before .size .ensures ∙ ap size (c .before .before .before .before .before .difference .ensures) in
     (omega arith, onward (l .inv .1) h (omega arith) (omega (arith, few (c .before .before .before .before), many)) (rw (sym many) (c .before .before .put-step-line .ensures)))
 
 same-length : tie.Need-same-length Inv-loop μ-loop

@@ -1,12 +1,12 @@
 -- `switch::plan::plan` meets its contract. The loop's invariant is `Planned`: the first i places are written, and with the plan from there on they are the
 -- whole plan; the switches so far, with those still to come, are its total.
-use mathlib.Core.Path.{ap, _∙_}
+use mathlib.Core.Path.{_≡_, ap, _∙_}
 use Prim.Native.Nat.{_-_, _≤_}
 use native.Mathlib.Omega.{arith}
 use borrow.Author.Needs.{needs}
 use denote.Ref.{now}
 use lib.ListN.{length}
-use Rattle.units.specs.Sets.{size}
+use Rattle.units.specs.Sets.{difference, size}
 use Rattle.units.proofs.Sets.{size-below}
 use Rattle.plans.specs.Rows.{stepsIn}
 use Rattle.plans.proofs.Laid.{steps-at}
@@ -56,9 +56,10 @@ loop-again c =
     let l = c .before .before .before .before .loop in
     let in-range = c .before .before .before .loop-test .taken in
     let ss = stepsIn (now (c .before .before .before .before .before .before .before .args .rows)) in
-    let many = c .size .ensures ∙ ap size (c .before .difference .ensures) in (
+    let set = c .before .before .step-set .result in
+    let many : c .size .result ≡ size (difference set (l .before)) = c .size .ensures ∙ ap size (c .before .difference .ensures) in (
       omega (arith, c .before .before .before .before .before .before .before .pre .0 .whole),
-      rw many (plan-on (l .inv .1) (c .before .before .step-set .result) (steps-at ss (l .i) (omega (arith, c .before .before .before .before .before .before .before .pre .0 .whole))) (c .before .before .step-set .ensures) (omega (arith, many, few c))),
+      rw many (plan-on (l .inv .1) set (steps-at ss (l .i) (omega (arith, c .before .before .before .before .before .before .before .pre .0 .whole))) (c .before .before .step-set .ensures) (omega (arith, many, few c))),
     )
 
 same-length : tie.Need-same-length Inv-loop μ-loop

@@ -12,7 +12,6 @@ use Rattle.plans.specs.Rows.{stepsIn, rankingAt}
 use Rattle.plans.specs.Support.{taken, supportSet}
 use Rattle.plans.proofs.Laid.{feasible-at}
 use Rattle.plans.proofs.Ranks.{ranks-ordered}
-use Rattle.switch.specs.Toward.{toward}
 use Rattle.switch.proofs.Supporting.{leave-room, join-room, kept-many, support-by}
 use Rattle.switch.proofs.plan.step_set.Statement.{statement}
 use Rattle.switch.proofs.plan.step_set.Tie as tie
@@ -31,10 +30,9 @@ room c = omega (arith, leave-room _ _ _ _ (feasible (c .before .before .before .
 -- as many are kept as do not leave
 kept : (c : tie.After-difference2) → c .before .before .before .before .size .result - c .before .before .before .excess .result ≡ size (c .difference2 .result)
 kept c =
-    let k = c .before .before .before .before .before .before .before .before .before .args in
     kept-many (ranks-ordered _ _ _) (c .before .before .before .before .before .union .result) (c .before .before .before .before .before .before .before .step-at .result .lower) (c .before .before .before .before .size .result) (c .before .before .before .excess .result)
     (c .before .before .before .before .size .ensures) (room (c .before .before .before)) (c .before .by-rank .result)
-    (c .before .by-rank .ensures ∙ ap (taken (toward true (rankingAt (stepsIn (now (k .rows))) (k .i))) (c .before .before .before .excess .result)) (c .before .before .difference .ensures))
+    (c .before .by-rank .ensures ∙ ap (taken _ (c .before .before .before .excess .result)) (c .before .before .difference .ensures))
     ∙ sym (ap size (c .difference2 .ensures))
 
 step-at-requires : tie.Need-step-at-requires

@@ -1,5 +1,5 @@
 -- `warm::planning::hand_out` meets its contract: the total that is compared with the bound is the fewest, and the plan is copied into the output.
-use mathlib.Core.Path.{ap, ap₂, _∙_}
+use mathlib.Core.Path.{_≡_, ap, ap₂, _∙_}
 use Prim.Native.Nat.{ℕ}
 use native.Mathlib.Omega.{arith}
 use borrow.Author.Needs.{needs}
@@ -34,8 +34,10 @@ returns c =
     let s = now (k .args .sheet) in
     let e = k .pre .0 in
     let out = now (k .args .plan) in
-    let counted = c .before .before .before .before .before .before .before .plan-read .ensures .1 .1 in
-    ap (λ r. (r, out)) (c .refused .ensures ∙ ap (refusedReply 9) counted)
+    let total = c .before .before .before .before .before .before .before .plan-read in
+    let counted = total .ensures .1 .1 in
+    let reply : c .refused .result ≡ refusedReply 9 (total .result) = c .refused .ensures in
+    ap (λ r. (r, out)) (reply ∙ ap (refusedReply 9) counted)
     ∙ ap (planned (startOf s) out) (over-bound s e (omega (arith, counted, bound-is s e, c .before .if1 .taken)))
 
 cast-copy-words : tie.Need-cast-copy-words

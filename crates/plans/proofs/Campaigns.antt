@@ -1,0 +1,36 @@
+-- Worked campaigns of two units, computed from the definitions: the plan that is handed out against all plans, and a chart. A definition of another
+-- planner, as one that fills early, ranks by what is past or by need alone, makes a row false.
+use mathlib.Core.Path.{_≡_, refl}
+use mathlib.Core.List.{List, [], _∷_}
+use Prim.Native.Nat.{ℕ}
+use lib.Count.{ones, onesIn}
+use Rattle.units.specs.Sets.{bit, union, intersection, difference, contains, insert, remove, isSubset, size, unitsBelow}
+use Rattle.plans.specs.declared.Limits.{Limits}
+use Rattle.plans.specs.Plans.{select, below, allows, prefixed, plansOf, leastOf, fewest, plansWithin, joined, joinedAll, canBeOn, canBeOff}
+use Rattle.plans.specs.Rows.{limits}
+use Rattle.plans.specs.Support.{nextRequired, nextForbidden, requiredFirst, ranksBefore, firstIn, taken, supportSet, supportFrom, findSupport}
+use Rattle.plans.specs.Switch.{switches, total}
+
+-- FindSupport's plan has the fewest switches
+abbrev Best : ℕ → List Limits → Type 0
+Best start ss = total start (findSupport start ss) ≡ fewest allows 2 start ss
+
+-- a step in which one unit may be on, or none, and one that asks for a lower set and allows an upper set
+abbrev narrow : Limits
+narrow = limits 0 3 0 1
+
+abbrev asks : ℕ → ℕ → Limits
+asks lower upper = limits lower upper 0 2
+
+-- No unit joins that need not. Of two units the one that is needed next stays. One that is banned before its need leaves, though it is needed earlier.
+pub plans-best :
+    Best 0 (asks 1 3 ∷ [])
+    × (Best 3 (narrow ∷ asks 2 3 ∷ [])
+    × Best 3 (narrow ∷ asks 0 2 ∷ asks 1 3 ∷ asks 2 3 ∷ []))
+unfolding bit union intersection difference contains insert remove isSubset size unitsBelow select below allows prefixed plansOf leastOf fewest nextRequired nextForbidden requiredFirst ranksBefore firstIn taken supportSet supportFrom findSupport switches total ones onesIn
+plans-best = (refl, (refl, refl))
+
+-- Where just one of two units must be on, either can be on, and either can be off, and no unit beyond them.
+pub either-can : (canBeOn allows 2 1 0 (limits 0 3 1 1 ∷ []) ≡ 3 ∷ []) × (canBeOff allows 2 1 0 (limits 0 3 1 1 ∷ []) ≡ 3 ∷ [])
+unfolding bit union intersection difference contains isSubset size select below allows prefixed plansOf plansWithin joined joinedAll canBeOn canBeOff switches total ones onesIn
+either-can = (refl, refl)
