@@ -1,10 +1,11 @@
 -- `switch::check::allows` meets its contract: each way out rewrites the test's parts by what the tests before it found.
-use mathlib.Core.Path.{sym, _∙_}
+use mathlib.Core.Path.{_≡_, sym, _∙_}
+use mathlib.Core.Bool.{false}
 use Prim.Native.Nat.{_<_, _≤_}
 use native.Mathlib.Omega.{arith}
 use borrow.Author.Needs.{needs}
 use borrow.Author.Tests.{le-leb, lt-leb, not-true, not-false}
-use Rattle.units.specs.Sets.{size}
+use Rattle.units.specs.Sets.{isSubset, size}
 use Rattle.plans.specs.Plans.{allows}
 use Rattle.switch.proofs.check.allows.Statement.{statement}
 use Rattle.switch.proofs.check.allows.Tie as tie
@@ -21,7 +22,10 @@ is-subset-requires-2 c κs = search needs
 
 returns-2 : tie.Need-returns-2
 unfolding allows
-returns-2 c = simp (sym (c .before .before .before .is-subset .ensures) ∙ not-false _ (c .before .before .if1 .left), sym (c .before .is-subset2 .ensures) ∙ not-true _ (c .if2 .taken))
+returns-2 c =
+    let a = c .before .before .before .before .args in
+    let outside : isSubset (a .x) (a .s .upper) ≡ false = sym (c .before .is-subset2 .ensures) ∙ not-true _ (c .if2 .taken) in
+    simp (sym (c .before .before .before .is-subset .ensures) ∙ not-false _ (c .before .before .if1 .left), outside)
 
 size-requires : tie.Need-size-requires
 size-requires c κs = search needs
