@@ -13,7 +13,7 @@ const BLOCK: usize = 16;
 type Rows = [u64; UNITS];
 
 // The rows before the first step of each block.
-type Marks = [Rows; STEPS / BLOCK];
+type Checkpoints = [Rows; STEPS / BLOCK];
 
 // The rows before the first step of a block, and after each of its steps.
 type BlockRows = [Rows; BLOCK + 1];
@@ -118,14 +118,14 @@ fn turn_block(p: &Planned, first: usize, last: usize, rows: &mut BlockRows) {
     }
 }
 
-fn marks(p: &Planned, rows: &mut BlockRows) -> Marks {
-    let mut marks = [[0; UNITS]; STEPS / BLOCK];
+fn checkpoints(p: &Planned, rows: &mut BlockRows) -> Checkpoints {
+    let mut checkpoints = [[0; UNITS]; STEPS / BLOCK];
     for k in 1..p.plan.len().div_ceil(BLOCK) {
-        rows[0] = marks[k - 1];
+        rows[0] = checkpoints[k - 1];
         turn_block(p, (k - 1) * BLOCK, k * BLOCK, rows);
-        marks[k] = rows[BLOCK];
+        checkpoints[k] = rows[BLOCK];
     }
-    marks
+    checkpoints
 }
 
 // ---- backward
@@ -135,7 +135,7 @@ struct Later {
     // the units with which there is one less
     saves: u64,
     // the units without which there are no more
-    spared: u64,
+    dispensable: u64,
     // in place of a unit: the units with which there are no more, or one less
     even: Rows,
     gain: Rows,
@@ -143,20 +143,20 @@ struct Later {
 
 impl Later {
     fn at_the_end() -> Later {
-        Later { saves: 0, spared: u64::MAX, even: [u64::MAX; UNITS], gain: [0; UNITS] }
+        Later { saves: 0, dispensable: u64::MAX, even: [u64::MAX; UNITS], gain: [0; UNITS] }
     }
 
     // From after a step to before it.
     fn step_back(&mut self, x: &Turn) {
-        let (mut found, mut spared) = (only_if(x.more, self.saves), x.before & !x.after);
+        let (mut found, mut dispensable) = (only_if(x.more, self.saves), x.before & !x.after);
         for b in units(x.held) {
             let (even, gain) = (self.even[b], self.gain[b]);
             found |= gain | only_if(!has(x.before, b), even);
-            let gives = x.less && has(self.spared, b) || even & x.free & x.before != 0 || gain & x.free != 0;
-            spared |= (gives as u64) << b;
+            let gives = x.less && has(self.dispensable, b) || even & x.free & x.before != 0 || gain & x.free != 0;
+            dispensable |= (gives as u64) << b;
         }
         self.saves = x.new | x.free & found;
-        self.spared = spared;
+        self.dispensable = dispensable;
         self.turn_back(x);
     }
 
@@ -164,9 +164,9 @@ impl Later {
     fn turn_back(&mut self, x: &Turn) {
         for b in units(x.held_before) {
             let stays = only_if(has(x.held, b), x.free);
-            let spared = has(self.spared, b);
-            self.even[b] = self.saves | only_if(spared, u64::MAX) | self.even[b] & stays;
-            self.gain[b] = only_if(!has(x.after, b), self.saves) | only_if(spared, x.new) | self.gain[b] & stays;
+            let dispensable = has(self.dispensable, b);
+            self.even[b] = self.saves | only_if(dispensable, u64::MAX) | self.even[b] & stays;
+            self.gain[b] = only_if(!has(x.after, b), self.saves) | only_if(dispensable, x.new) | self.gain[b] & stays;
         }
     }
 }
@@ -176,7 +176,7 @@ impl Later {
 // The units that can be on after a step, and those of `all` that can be off, with no switch to spare (tight) or with one.
 fn words(x: &Turn, tight: bool, all: u64, after: &Rows, later: &Later) -> (u64, u64) {
     let joining = if tight { later.saves } else { u64::MAX };
-    let loose = if tight { later.spared } else { u64::MAX };
+    let loose = if tight { later.dispensable } else { u64::MAX };
     let (mut on, mut off) = (only_if(x.more, joining), only_if(x.less, loose) & x.held);
     for b in units(x.held) {
         let (turned, even, gain) = (after[b], later.even[b], later.gain[b]);
@@ -191,11 +191,11 @@ fn words(x: &Turn, tight: bool, all: u64, after: &Rows, later: &Later) -> (u64, 
 fn from_tables(p: &Planned, tight: bool, all: u64, on: &mut [u64], off: &mut [u64]) {
     let n = p.plan.len();
     let mut rows = [[0; UNITS]; BLOCK + 1];
-    let marks = marks(p, &mut rows);
+    let checkpoints = checkpoints(p, &mut rows);
     let mut later = Later::at_the_end();
     for first in (0..n).step_by(BLOCK).rev() {
         let last = n.min(first + BLOCK);
-        rows[0] = marks[first / BLOCK];
+        rows[0] = checkpoints[first / BLOCK];
         turn_block(p, first, last, &mut rows);
         for i in (first..last).rev() {
             let (x, at) = (p.turn(i), i - first);
@@ -216,10 +216,10 @@ fn from_steps(c: &Columns, n: usize, all: u64, on: &mut [u64], off: &mut [u64]) 
 
 // Fills the first places of `on` and `off`. The plan is within the bound.
 pub fn chart(columns: &Columns, x: &Summary, total: u32, plan: &[u64], on: &mut [u64], off: &mut [u64]) {
-    let (spare, all) = (x.bound - total, all_units(x.units));
-    if spare >= 2 {
+    let (slack, all) = (x.bound - total, all_units(x.units));
+    if slack >= 2 {
         from_steps(columns, x.n, all, on, off);
     } else {
-        from_tables(&Planned { columns, start: x.start, plan: &plan[..x.n] }, spare == 0, all, on, off);
+        from_tables(&Planned { columns, start: x.start, plan: &plan[..x.n] }, slack == 0, all, on, off);
     }
 }

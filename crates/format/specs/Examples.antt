@@ -49,7 +49,8 @@ step l u m g = tagged l u m g 0
 abbrev pub noStep : List ℕ
 noStep = headerBytes 1 0 0 0 0
 
--- one unit, and one record whose next record and whose header's first are these: a record that names itself (B8), a first that is not there (B9)
+-- one unit and one record, with these numbers of the first record, in the header, and of the next, in the record: with 1 and 1 the record names itself
+-- (B8), and with 2 and 0 the first record is not there (B9)
 abbrev pub oneRecord : ℕ → ℕ → List ℕ
 oneRecord first next = headerBytes 1 1 first 0 0 ++ recordBytes (step 0 1 0 1) next
 
