@@ -1,5 +1,5 @@
 -- `Answers` has the laws on choices between a refusal and a value, `Records` those on records and their numbers, `Chains` those on the chain, `Readings`
--- those on what the reader's stages say of a sheet, and `Agreements` those on sheets that agree.
+-- those on what the reader's stages say of a sheet, and `Agreements` those on sheets that agree. `Examples` has the worked examples.
 pub mod Agreements
 pub mod Answers
 pub mod Chains

@@ -1,4 +1,4 @@
--- `listing::try_bounds` is safe and ends: after counts up from the fewest to three more.
+-- `all_plans::try_bounds` is safe and ends: after counts up from the fewest to three more.
 use Prim.Native.Nat.{_≤_, _+_, _-_}
 use borrow.Author.Needs.{needs}
 use Rattle.all_plans.proofs.try_bounds.Statement.{statement}

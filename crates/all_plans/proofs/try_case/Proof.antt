@@ -1,4 +1,4 @@
--- `listing::try_case` is safe and ends: start counts up to the number of sets.
+-- `all_plans::try_case` is safe and ends: start counts up to the number of sets.
 use Prim.Native.Nat.{_≤_, _-_}
 use borrow.Author.Needs.{needs}
 use Rattle.all_plans.proofs.try_case.Statement.{statement}

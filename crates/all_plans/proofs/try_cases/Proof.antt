@@ -1,4 +1,4 @@
--- `listing::try_cases` is safe and ends: case counts up to the number of cases.
+-- `all_plans::try_cases` is safe and ends: case counts up to the number of cases.
 use Prim.Native.Nat.{_≤_, _-_}
 use borrow.Author.Needs.{needs}
 use Rattle.all_plans.proofs.try_cases.Statement.{statement}

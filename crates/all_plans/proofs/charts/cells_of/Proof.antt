@@ -1,4 +1,4 @@
--- `listing::charts::cells_of` is safe and ends: p goes up to the number of plans.
+-- `all_plans::charts::cells_of` is safe and ends: p goes up to the number of plans.
 use Prim.Native.Nat.{_<_, _-_}
 use borrow.Author.Needs.{needs}
 use Rattle.all_plans.proofs.charts.cells_of.Statement.{statement}

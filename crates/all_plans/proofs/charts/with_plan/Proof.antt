@@ -1,4 +1,4 @@
--- `listing::charts::with_plan` is safe and ends: k counts up to the number of steps.
+-- `all_plans::charts::with_plan` is safe and ends: k counts up to the number of steps.
 use Prim.Native.Nat.{_≤_, _-_}
 use borrow.Author.Needs.{needs}
 use Rattle.all_plans.proofs.charts.with_plan.Statement.{statement}

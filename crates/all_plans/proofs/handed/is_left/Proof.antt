@@ -1,4 +1,4 @@
--- `listing::handed::is_left` is safe and ends: k counts up to 8.
+-- `all_plans::handed::is_left` is safe and ends: k counts up to 8.
 use Prim.Native.Nat.{_≤_, _-_}
 use borrow.Author.Needs.{needs}
 use Rattle.all_plans.proofs.handed.is_left.Statement.{statement}

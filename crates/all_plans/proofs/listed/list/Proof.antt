@@ -1,4 +1,4 @@
--- `listing::listed::list` meets its contract, and p goes up to the number of plans.
+-- `all_plans::listed::list` meets its contract, and p goes up to the number of plans.
 use Prim.Native.Nat.{_≤_, _<_, _-_}
 use borrow.Author.Needs.{needs}
 use Rattle.all_plans.proofs.listed.list.Statement.{statement}

@@ -1,4 +1,4 @@
--- `listing::plans::last_fault` meets its contract: k counts down from the number of steps.
+-- `all_plans::plans::last_fault` meets its contract: k counts down from the number of steps.
 use Prim.Native.Nat.{_≤_}
 use borrow.Author.Needs.{needs}
 use Rattle.all_plans.proofs.plans.last_fault.Statement.{statement}

@@ -1,4 +1,4 @@
--- `listing::plans::plan_at` is safe and ends: k counts up to 6.
+-- `all_plans::plans::plan_at` is safe and ends: k counts up to 6.
 use Prim.Native.Nat.{_≤_, _-_}
 use borrow.Author.Needs.{needs}
 use Rattle.all_plans.proofs.plans.plan_at.Statement.{statement}

@@ -1,4 +1,4 @@
--- `listing::plans::total_of` meets its contract: each step has 4 switches at the most.
+-- `all_plans::plans::total_of` meets its contract: each step has 4 switches at the most.
 use Prim.Native.Nat.{_≤_, _-_, _*_}
 use borrow.Author.Needs.{needs}
 use Rattle.all_plans.proofs.plans.total_of.Statement.{statement}

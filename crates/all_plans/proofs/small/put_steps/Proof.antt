@@ -1,4 +1,4 @@
--- `listing::small::put_steps` is safe and ends: k counts up to the number of steps.
+-- `all_plans::small::put_steps` is safe and ends: k counts up to the number of steps.
 use Prim.Native.Nat.{_≤_, _-_}
 use borrow.Author.Needs.{needs}
 use Rattle.all_plans.proofs.small.put_steps.Statement.{statement}

@@ -1,4 +1,4 @@
--- `listing::small::size` meets its contract: each of 4 turns counts one unit at the most.
+-- `all_plans::small::size` meets its contract: each of 4 turns counts one unit at the most.
 use Prim.Native.Nat.{_≤_, _-_}
 use borrow.Author.Needs.{needs}
 use Rattle.all_plans.proofs.small.size.Statement.{statement}

@@ -1,4 +1,4 @@
--- `listing::verdicts::try_plans` is safe and ends: p counts up to the number of plans.
+-- `all_plans::verdicts::try_plans` is safe and ends: p counts up to the number of plans.
 use Prim.Native.Nat.{_≤_, _-_}
 use borrow.Author.Needs.{needs}
 use Rattle.all_plans.proofs.verdicts.try_plans.Statement.{statement}
