@@ -66,14 +66,14 @@ fn report(name: &[u8], bytes: &Space, length: usize)
     }
 }
 
-// Fewer bytes than a header has, the longest sheet, and a byte more.
+// Fewer bytes than a header has, the longest sheet, and a byte more. The numbers are those of the requirements, and not the reader's own.
 fn report_lengths() {
     let mut bytes = [0u8; SPACE];
-    put_numbers(&mut bytes, 1, Sheet::RECORD_LIMIT);
+    put_numbers(&mut bytes, 1, 256);
     put_most_steps(&mut bytes, any_of(1), any_of(1));
-    report(b"length 23", &bytes, Sheet::HEADER_SIZE - 1);
-    report(b"length 6168", &bytes, Sheet::LONGEST);
-    report(b"length 6169", &bytes, Sheet::LONGEST + 1);
+    report(b"length 23", &bytes, 23);
+    report(b"length 6168", &bytes, 6168);
+    report(b"length 6169", &bytes, 6169);
 }
 
 // A sheet of so many units with one step, which has that upper set.
