@@ -28,6 +28,7 @@ pub enum Family {
     TwoNumbers,
     Extremes,
     NearlyAll,
+    AskedInBlocks,
     Random,
     OneTouched,
     AnySet,
@@ -38,13 +39,14 @@ fn all_units(d: u32) -> u64 {
 }
 
 impl Family {
-    pub const ALL: [Family; 9] = [
+    pub const ALL: [Family; 10] = [
         Family::OneAsked,
         Family::ManyAndFew,
         Family::LongGaps,
         Family::TwoNumbers,
         Family::Extremes,
         Family::NearlyAll,
+        Family::AskedInBlocks,
         Family::Random,
         Family::OneTouched,
         Family::AnySet,
@@ -58,6 +60,7 @@ impl Family {
             Family::TwoNumbers => format!("{} and {} on", d / 2 - 1, d / 2 + 1),
             Family::Extremes => format!("1 and {} on", d - 1),
             Family::NearlyAll => format!("{} and {} on", d - 2, d - 1),
+            Family::AskedInBlocks => "asked in blocks".into(),
             Family::Random => "random".into(),
             Family::OneTouched => "one unit touched".into(),
             Family::AnySet => "any set".into(),
@@ -95,10 +98,29 @@ impl Family {
                 let many = if odd { 1 } else { d - 1 };
                 any(many, many)
             }
-            // all but two and all but one on, in turns, and nothing else is asked: nearly all units have rows in each step, the most work for the chart
+            // all but two and all but one on, in turns, and nothing else is asked: nearly all units have rows in each step, the most work for
+            // the tables of the chart
             Family::NearlyAll => {
                 let many = if odd { d - 2 } else { d - 1 };
                 any(many, many)
+            }
+            // One unit is asked in each step: in the first of a block of sixteen steps one of the block's own, in the others the same as in the block
+            // before, and in the last block units that are asked only there. One less is on from step to step, and then nearly all again. Those
+            // that come and go are asked only in the last step, which asks for all. So each choice goes on to the last step and looks at the
+            // steps of the first and of the last block one by one, and nearly each look finds a unit and has to count: the most work for the plan.
+            Family::AskedInBlocks => {
+                let (block, place, quarter) = (i / 16, i as u32 % 16, d / 4);
+                let unit = match place {
+                    _ if block == (n - 1) / 16 => 2 * quarter + place % quarter,
+                    0 => quarter + block as u32 % quarter,
+                    _ => place % quarter,
+                };
+                let many = d - 1 - i as u32 % quarter.max(2);
+                if i == n - 1 {
+                    Step { lower: all_units(d), ..any(d, d) }
+                } else {
+                    asked(unit, any(many, many))
+                }
             }
             // random sets and numbers
             Family::Random => {

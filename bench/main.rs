@@ -1,10 +1,11 @@
-// The benchmark: times of the four entries beside plain Rust, growth, and stack. bench/run builds and starts it, with the stack limits as
-// arguments (NAME BYTES ...). docs/FORMAT.md has the entries.
+// The benchmark: times of the four entries beside plain Rust, and of the plan beside a scan of single steps, growth, and stack. bench/run builds and
+// starts it, with the stack limits as arguments (NAME BYTES ...). docs/FORMAT.md has the entries.
 mod families;
 mod library;
 mod painted;
 mod plain;
 mod plain_chart;
+mod scan;
 mod task;
 mod timing;
 
@@ -23,8 +24,8 @@ const ROWS: [(Entry, u32, &str); 6] = [
 ];
 const GROWTH_ROWS: [(Entry, u32, &str); 4] = [ROWS[1], ROWS[3], ROWS[4], ROWS[5]];
 
-// The slowest chart, and a common one.
-const GROWTH_FAMILIES: [Family; 2] = [Family::NearlyAll, Family::Random];
+// The most work for the tables of the chart, the most for the plan, and a common sheet.
+const GROWTH_FAMILIES: [Family; 3] = [Family::NearlyAll, Family::AskedInBlocks, Family::Random];
 const GROWTH_SIZES: [(usize, u32); 7] = [(32, 64), (64, 64), (128, 64), (256, 64), (256, 8), (256, 16), (256, 32)];
 
 // Seconds for a row.
@@ -59,7 +60,7 @@ fn growth_cases() -> Vec<Case> {
     GROWTH_FAMILIES.iter().flat_map(|&family| GROWTH_SIZES.map(|(steps, units)| case(family, steps, units))).collect()
 }
 
-// The rows of some cases, compared with plain Rust.
+// The rows of some cases, compared with plain Rust, and the plans also with the scan.
 fn checked_rows<'a>(checker: &mut Checker, cases: &'a [Case], entries: &[(Entry, u32, &'static str)]) -> Vec<Row<'a>> {
     let mut rows = vec![];
     for case in cases {
@@ -116,40 +117,45 @@ fn grouped(whole: &str) -> String {
     groups.join(",")
 }
 
+// The scan's time, and the library's as a part of it; empty where there is none.
+fn scan_cells(times: &Times) -> (String, String) {
+    times.scan.map_or_else(Default::default, |scan| (digits(scan), format!("{:.2}", times.library / scan)))
+}
+
 fn print_times(rows: &[Row]) {
-    println!("Microseconds per call: medians, library and plain Rust in turns. Outputs are not cleared between calls.");
-    println!("Slack: the bound less the fewest warm-ups.\n");
-    println!("| steps | units | sheet            | entry          |   library |     plain | ratio |");
-    println!("|------:|------:|:-----------------|:---------------|----------:|----------:|------:|");
+    println!("Microseconds per call: medians, library, plain Rust and scan in turns. Outputs are not cleared between calls.");
+    println!("Slack: the bound less the fewest warm-ups. Scan: a plan in plain Rust that looks at one step after the other.\n");
+    println!("| steps | units | sheet            | entry          |   library |     plain | ratio |      scan | of the scan |");
+    println!("|------:|------:|:-----------------|:---------------|----------:|----------:|------:|----------:|------------:|");
     for Row { case, label, task } in rows {
-        let Times { library, plain } = measure(task, BUDGET);
-        let (Case { family, steps, units, .. }, ratio) = (case, library / plain);
-        println!("| {steps:5} | {units:5} | {family:16} | {label:14} | {:>9} | {:>9} | {ratio:5.2} |", digits(library), digits(plain));
+        let times @ Times { library, plain, .. } = measure(task, BUDGET);
+        let (Case { family, steps, units, .. }, ratio, (scan, of_scan)) = (case, library / plain, scan_cells(&times));
+        print!("| {steps:5} | {units:5} | {family:16} | {label:14} | {:>9} | {:>9} | {ratio:5.2} |", digits(library), digits(plain));
+        println!(" {scan:>9} | {of_scan:>11} |");
     }
 }
 
 fn print_clearing(rows: &[Row]) {
     let row = rows.iter().find(|row| row.task.entry == Entry::Plan && row.case.family == "any set").expect("a plan of any set");
-    let times = cost_of_clearing(&row.task);
-    let (cleared, not) = (digits(times.library), digits(times.plain));
+    let [cleared, not] = cost_of_clearing(&row.task).map(digits);
     println!("\nThe library's plan of 'any set' (256 steps) takes {cleared} microseconds with the output cleared before each call, and");
     println!("{not} without.");
 }
 
 fn print_growth(rows: &[Row]) {
-    println!("\nGrowth, microseconds per call of the library, and its ratio to plain Rust.\n");
-    println!("| sheet        | steps | units |  plan | ratio | chart, slack 0 | ratio | chart, slack 1 | ratio | chart, slack 2 | ratio |");
-    println!("|:-------------|------:|------:|------:|------:|---------------:|------:|---------------:|------:|---------------:|------:|");
+    println!("\nGrowth, microseconds per call of the library, and its ratio to plain Rust; the time of the scan, and the plan's as a part of it.\n");
+    print!("| sheet            | steps | units |  plan | ratio |  scan | of the scan |");
+    println!(" chart, slack 0 | ratio | chart, slack 1 | ratio | chart, slack 2 | ratio |");
+    print!("|:-----------------|------:|------:|------:|------:|------:|------------:|");
+    println!("---------------:|------:|---------------:|------:|---------------:|------:|");
     for group in rows.chunks(GROWTH_ROWS.len()) {
         let Case { family, steps, units, .. } = group[0].case;
-        let cells: Vec<(String, f64)> = group
-            .iter()
-            .map(|row| measure(&row.task, BUDGET))
-            .map(|times| (digits(times.library), times.library / times.plain))
-            .collect();
-        let [(plan, a), charts @ ..] = &cells[..] else { unreachable!() };
-        let charts: String = charts.iter().map(|(time, ratio)| format!(" {time:>14} | {ratio:5.2} |")).collect();
-        println!("| {family:12} | {steps:5} | {units:5} | {plan:>5} | {a:5.2} |{charts}");
+        let times: Vec<Times> = group.iter().map(|row| measure(&row.task, BUDGET)).collect();
+        let cells = |times: &Times| (digits(times.library), times.library / times.plain);
+        let ((plan, ratio), (scan, of_scan)) = (cells(&times[0]), scan_cells(&times[0]));
+        print!("| {family:16} | {steps:5} | {units:5} | {plan:>5} | {ratio:5.2} | {scan:>5} | {of_scan:>11} |");
+        let charts = times[1..].iter().map(cells);
+        println!("{}", charts.map(|(chart, ratio)| format!(" {chart:>14} | {ratio:5.2} |")).collect::<String>());
     }
 }
 

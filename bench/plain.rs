@@ -1,10 +1,10 @@
-// The four entries in plain Rust: the same checks, walks, scans and replies as the library, for comparison. docs/FORMAT.md has the sheet,
-// the refusals and the planner. The chart is in plain_chart.rs; it uses the columns of the plan.
+// The four entries in plain Rust: the same checks, walks, choices and replies as the library, for comparison. docs/FORMAT.md has the sheet,
+// the refusals and the planner. The chart is in plain_chart.rs; it uses the columns of the plan. scan.rs has another way to make a plan.
 #![forbid(unsafe_code)]
 use crate::library::{Reply, Step, StepsReply, STEPS};
 use crate::plain_chart;
 
-struct Refusal(u32, u32);
+pub struct Refusal(u32, u32);
 
 // What a sheet says, but for its steps.
 pub struct Summary {
@@ -146,60 +146,174 @@ fn columns(s: &[u8], n: usize) -> Columns {
 
 // ---- the planner
 
-// The k lowest units of a set, or the k highest.
-fn by_number(mut rest: u64, k: u32, last: bool) -> u64 {
-    let mut found = 0;
+// The steps in a block.
+const BLOCK: usize = 16;
+
+// Steps on end, taken as one step: the units that some step requires, and those that no step forbids before one requires them. `next` is the
+// step after them.
+struct Stretch {
+    lower: u64,
+    upper: u64,
+    next: usize,
+}
+
+// What has been found of the first units of a set, and how many are left to find in the rest.
+struct Pick {
+    found: u64,
+    rest: u64,
+    left: u32,
+}
+
+// The sets of the steps, and those of each block of sixteen steps.
+struct Ahead<'a> {
+    lower: &'a [u64],
+    upper: &'a [u64],
+    block_lower: [u64; STEPS / BLOCK],
+    block_upper: [u64; STEPS / BLOCK],
+}
+
+// A set without its k lowest units, or without its k highest.
+fn cleared(mut set: u64, k: u32, last: bool) -> u64 {
     for _ in 0..k {
-        let u = if last { 63 - rest.leading_zeros() } else { rest.trailing_zeros() };
-        found |= 1 << u;
-        rest &= !(1 << u);
+        let u = if last { 63 - set.leading_zeros() } else { set.trailing_zeros() };
+        set &= !(1 << u);
     }
-    found
+    set
 }
 
-// The k units of a set that go first in the ranking of the given steps, or last.
-fn by_rank(lower: &[u64], upper: &[u64], set: u64, k: u32, last: bool) -> u64 {
-    let (mut found, mut rest, mut left) = (0, set, k);
-    for (&lower, &upper) in lower.iter().zip(upper) {
-        let far = rest & upper & !lower;
-        let required = rest & upper & lower;
-        let forbidden = rest & !upper;
-        let (first, end) = if last { (forbidden, required) } else { (required, forbidden) };
-        let many = first.count_ones();
-        if left <= many {
-            return found | by_number(first, left, last);
-        }
-        left -= many;
-        found |= first;
-        let others = far.count_ones();
-        if others < left {
-            return found | far | by_number(end, left - others, last);
-        }
-        rest = far;
-    }
-    found | by_number(rest, left, last)
-}
-
-// What is on in the first of the given steps, where `before` was on.
-fn step_set(lower: &[u64], upper: &[u64], least: u8, greatest: u8, before: u64) -> u64 {
-    let (must, may) = (lower[0], upper[0]);
-    let begun = before & may | must;
-    let (many, fewest, most) = (begun.count_ones(), least as u32, greatest as u32);
-    if many > most {
-        begun & !by_rank(lower, upper, begun & !must, many - most, true)
-    } else if many < fewest {
-        begun | by_rank(lower, upper, may & !begun, fewest - many, false)
+// The k lowest units of a set, or the k highest. They are cleared, or the others are: whichever are fewer.
+fn by_number(set: u64, k: u32, last: bool) -> u64 {
+    let others = set.count_ones() - k;
+    if k < others {
+        set & !cleared(set, k, last)
     } else {
-        begun
+        cleared(set, others, !last)
+    }
+}
+
+// The units that these sets neither require nor forbid.
+fn undecided(lower: u64, upper: u64, rest: u64) -> u64 {
+    rest & upper & !lower
+}
+
+// The units that these sets forbid, or those that they require.
+fn group(lower: u64, upper: u64, rest: u64, forbids: bool) -> u64 {
+    if forbids {
+        rest & !upper
+    } else {
+        rest & upper & lower
+    }
+}
+
+// Whether the `left` units that go first are all of the group that goes first, and else undecided ones.
+fn passes(lower: u64, upper: u64, rest: u64, left: u32, last: bool) -> bool {
+    let far = undecided(lower, upper, rest);
+    if far == rest {
+        return true;
+    }
+    let many = group(lower, upper, rest, last).count_ones();
+    if left < many {
+        return false;
+    }
+    left - many <= far.count_ones()
+}
+
+// Of the `left` units that go first: those that these sets decide.
+fn look(lower: u64, upper: u64, rest: u64, left: u32, last: bool) -> Pick {
+    let far = undecided(lower, upper, rest);
+    if far == rest {
+        return Pick { found: 0, rest, left };
+    }
+    let first = group(lower, upper, rest, last);
+    let many = first.count_ones();
+    if left <= many {
+        return Pick { found: by_number(first, left, last), rest: 0, left: 0 };
+    }
+    let (after, others) = (left - many, far.count_ones());
+    if others <= after {
+        let end = group(lower, upper, rest, !last);
+        return Pick { found: first | far | by_number(end, after - others, last), rest: 0, left: 0 };
+    }
+    Pick { found: first, rest: far, left: after }
+}
+
+impl Ahead<'_> {
+    // With the sets of the blocks.
+    fn new<'a>(lower: &'a [u64], upper: &'a [u64]) -> Ahead<'a> {
+        let mut ahead = Ahead { lower, upper, block_lower: [0; STEPS / BLOCK], block_upper: [0; STEPS / BLOCK] };
+        for q in 0..lower.len().div_ceil(BLOCK) {
+            let block = ahead.stretch(BLOCK * q, ahead.end(q));
+            ahead.block_lower[q] = block.lower;
+            ahead.block_upper[q] = block.upper;
+        }
+        ahead
+    }
+
+    // The step after block q.
+    fn end(&self, q: usize) -> usize {
+        self.lower.len().min(BLOCK * q + BLOCK)
+    }
+
+    // The steps of a range, from the last to the first.
+    fn stretch(&self, from: usize, to: usize) -> Stretch {
+        let (mut lower, mut upper) = (0, u64::MAX);
+        for j in (from..to).rev() {
+            upper = self.upper[j] & (self.lower[j] | upper);
+            lower |= self.lower[j];
+        }
+        Stretch { lower, upper, next: to }
+    }
+
+    // The block that begins at j if it can be passed as a whole, or else the step at j.
+    fn at(&self, j: usize, rest: u64, left: u32, last: bool) -> Stretch {
+        if j % BLOCK == 0 {
+            let q = j / BLOCK;
+            let (lower, upper) = (self.block_lower[q], self.block_upper[q]);
+            if passes(lower, upper, rest, left, last) {
+                return Stretch { lower, upper, next: self.end(q) };
+            }
+        }
+        Stretch { lower: self.lower[j], upper: self.upper[j], next: j + 1 }
+    }
+
+    // The k units of a set that go first in the ranking of the steps from the given one on, or last.
+    fn by_rank(&self, from: usize, set: u64, k: u32, last: bool) -> u64 {
+        let (mut found, mut rest, mut left, mut j) = (0, set, k, from);
+        while left > 0 {
+            if j == self.lower.len() {
+                return found | by_number(rest, left, last);
+            }
+            let s = self.at(j, rest, left, last);
+            let pick = look(s.lower, s.upper, rest, left, last);
+            found |= pick.found;
+            rest = pick.rest;
+            left = pick.left;
+            j = s.next;
+        }
+        found
+    }
+
+    // What is on in step i, where `before` was on.
+    fn step_set(&self, i: usize, least: u8, greatest: u8, before: u64) -> u64 {
+        let (must, may) = (self.lower[i], self.upper[i]);
+        let begun = before & may | must;
+        let (many, fewest, most) = (begun.count_ones(), least as u32, greatest as u32);
+        if many > most {
+            begun & !self.by_rank(i, begun & !must, many - most, true)
+        } else if many < fewest {
+            begun | self.by_rank(i, may & !begun, fewest - many, false)
+        } else {
+            begun
+        }
     }
 }
 
 // Fills the plan, and gives its total.
 fn make_plan(c: &Columns, x: &Summary, out: &mut [u64]) -> u32 {
-    let (lower, upper) = (&c.lower[..x.n], &c.upper[..x.n]);
+    let ahead = Ahead::new(&c.lower[..x.n], &c.upper[..x.n]);
     let (mut before, mut total) = (x.start, 0);
     for i in 0..x.n {
-        let set = step_set(&lower[i..], &upper[i..], c.least[i], c.greatest[i], before);
+        let set = ahead.step_set(i, c.least[i], c.greatest[i], before);
         total += (set & !before).count_ones();
         out[i] = set;
         before = set;
@@ -226,13 +340,14 @@ fn steps_reply(sheet: &[u8], list: &mut [Step]) -> Result<StepsReply, Refusal> {
     Ok(StepsReply { units: x.units, steps: x.n as u32, bound: x.bound, start: x.start, ..Default::default() })
 }
 
-fn plan_reply(sheet: &[u8], out: &mut [u64]) -> Result<Reply, Refusal> {
+// The reply with the plan that `make` fills in.
+pub fn plan_reply(sheet: &[u8], out: &mut [u64], make: impl Fn(&Columns, &Summary, &mut [u64]) -> u32) -> Result<Reply, Refusal> {
     let x = read(sheet)?;
     if out.len() < x.n {
         return Err(Refusal(8, x.n as u32));
     }
     let mut sets = [0; STEPS];
-    let total = make_plan(&columns(sheet, x.n), &x, &mut sets);
+    let total = make(&columns(sheet, x.n), &x, &mut sets);
     if total > x.bound {
         return Err(Refusal(9, total));
     }
@@ -270,7 +385,7 @@ fn chart_reply(sheet: &[u8], on: &mut [u64], off: &mut [u64]) -> Result<Reply, R
     Ok(Reply { total, ..Default::default() })
 }
 
-fn refused(Refusal(refusal, place): Refusal) -> Reply {
+pub fn refused(Refusal(refusal, place): Refusal) -> Reply {
     Reply { refusal, place, ..Default::default() }
 }
 
@@ -281,7 +396,7 @@ pub fn steps(sheet: &[u8], list: &mut [Step]) -> StepsReply {
 
 #[inline(never)]
 pub fn plan(sheet: &[u8], out: &mut [u64]) -> Reply {
-    plan_reply(sheet, out).unwrap_or_else(refused)
+    plan_reply(sheet, out, make_plan).unwrap_or_else(refused)
 }
 
 #[inline(never)]

@@ -1,8 +1,9 @@
-// One measured call: an entry with its inputs, made to the library, to plain Rust, or to the library on a painted stack.
+// One measured call: an entry with its inputs, made to the library, to plain Rust, to the scan, or to the library on a painted stack.
 use crate::families::set_bound;
 use crate::library::{self, Reply, Step, StepsReply, STEPS};
 use crate::painted::Painted;
 use crate::plain;
+use crate::scan;
 
 #[derive(Clone, Copy, Debug, PartialEq)]
 pub enum Entry {
@@ -72,6 +73,12 @@ pub fn call_plain(task: &Task, out: &mut Outputs) {
         Entry::Verdict => out.reply = plain::verdict(&task.sheet, &task.plan),
         Entry::Chart => out.reply = plain::chart(&task.sheet, &mut out.first, &mut out.second),
     }
+}
+
+// The scan has a plan, and no other entry.
+pub fn call_scan(task: &Task, out: &mut Outputs) {
+    assert_eq!(task.entry, Entry::Plan);
+    out.reply = scan::plan(&task.sheet, &mut out.first);
 }
 
 // Calls the library on a painted stack, and gives the bytes of stack that it used.

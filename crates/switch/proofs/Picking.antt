@@ -3,9 +3,9 @@
 -- At a step the units fall into three groups: those required now, those that the step leaves open, and those forbidden now. The first group ranks before
 -- the second and that before the third; within the first and the third the tie order decides, and the second is ranked as from the next step on.
 -- So the first k units are taken from the groups in turn (`taken-front`, `taken-past`). The last k are found in the same way from the other end.
-use mathlib.Core.Path.{_≡_, refl, sym, ap, _∙_, subst}
+use mathlib.Core.Path.{_≡_, refl, sym, ap, _∙_, subst, subst₃}
 use mathlib.Core.Logic.{_⊎_, inl, inr}
-use mathlib.Core.Bool.{Bool, true, false, cond}
+use mathlib.Core.Bool.{Bool, true, false, not}
 use mathlib.Core.List.{List, [], _∷_}
 use Prim.Native.Nat.{ℕ, suc, _+_, _-_, _≤_, _<_, min}
 use native.Mathlib.Decide.{decLt}
@@ -14,7 +14,8 @@ use borrow.Author.Tests.{le-ltb}
 use lib.Dec.{ltb}
 use lib.ListN.{length}
 use Rattle.units.specs.Sets.{bit, union, intersection, difference, Subset, insert, remove, size}
-use Rattle.units.proofs.Sets.{bit-le, bit-cases, bit-union, bit-intersection, bit-difference, set-ext, union-assoc, union-empty-left, union-empty-right, union-insert, size-mono, size-remove, size-difference, size-union}
+use Rattle.units.proofs.Sets.{bit-le, bit-cases, bit-union, bit-intersection, bit-difference, set-ext, union-assoc, union-empty-right, difference-empty, difference-insert, difference-twice, size-mono, size-none, size-remove, size-difference, size-union}
+use Rattle.switch.specs.Groups.{undecided, required, forbidden, group}
 use Rattle.switch.specs.Toward.{toward, FirstByNumber}
 use Rattle.plans.specs.Rows.{limits}
 use Rattle.switch.specs.Looked.{Looked}
@@ -93,45 +94,47 @@ module _ (n i : ℕ) (s : Limits) (ss : List Limits) (h : i + length (s ∷ ss) 
   required-first : (u v : ℕ) → bit (s .lower) u ≡ 1 → bit (s .upper) u ≡ 1 → bit (s .lower) v ≡ 0 → ranksBefore n i (s ∷ ss) u v ≡ true
   required-first u v p q r = better-ranks n i (s ∷ ss) u v (required-better n i s ss h u v p q r)
 
--- ---- the groups of the units of `rest`: those allowed and open, and at the two ends those required and those forbidden
+-- ---- the groups of the units of `rest`
 
-abbrev pub undecided : ℕ → ℕ → ℕ → ℕ
-undecided lower upper rest = difference (intersection rest upper) lower
+-- which group a unit is in
+abbrev pub GroupBits : ℕ → ℕ → ℕ → ℕ → Type 0
+GroupBits lower upper rest u =
+    (bit (undecided lower upper rest) u ≡ min (bit rest u) (bit upper u) - bit lower u) × ((bit (required lower upper rest) u ≡ min (min (bit rest u) (bit upper u)) (bit lower u)) × ((bit (forbidden upper rest) u ≡ bit rest u - bit upper u) × ((bit rest u ≤ 1) × ((bit upper u ≤ 1) × (bit lower u ≤ 1)))))
 
-abbrev pub required : ℕ → ℕ → ℕ → ℕ
-required lower upper rest = intersection (intersection rest upper) lower
+pub group-bits : (lower upper rest u : ℕ) → GroupBits lower upper rest u
+group-bits lower upper rest u = (
+  bit-difference (intersection rest upper) lower u ∙ ap (λ (x : ℕ). x - bit lower u) (bit-intersection rest upper u),
+  (
+    bit-intersection (intersection rest upper) lower u ∙ ap (λ (x : ℕ). min x (bit lower u)) (bit-intersection rest upper u),
+    (bit-difference rest upper u, (bit-le rest u, (bit-le upper u, bit-le lower u))),
+  ),
+)
 
-abbrev pub forbidden : ℕ → ℕ → ℕ
-forbidden upper rest = difference rest upper
+-- a group and the undecided units are apart, and units of `rest`
+module _ (last : Bool) (lower upper rest : ℕ) where
+  pub group-apart : (u : ℕ) → bit (group last lower upper rest) u + bit (undecided lower upper rest) u ≤ bit rest u
+  group-apart u = go last
+    where
+      go : (b : Bool) → bit (group b lower upper rest) u + bit (undecided lower upper rest) u ≤ bit rest u
+      go true = omega (arith, group-bits lower upper rest u)
+      go false = omega (arith, group-bits lower upper rest u)
 
--- the group that goes first, and the one that goes last
-abbrev pub firstGroup : Bool → ℕ → ℕ → ℕ → ℕ
-firstGroup last lower upper rest = cond last (forbidden upper rest) (required lower upper rest)
+  pub group-within : Subset (group last lower upper rest) rest
+  group-within u = omega (arith, group-apart u)
 
-abbrev pub endGroup : Bool → ℕ → ℕ → ℕ → ℕ
-endGroup last lower upper rest = cond last (required lower upper rest) (forbidden upper rest)
+  pub group-room : size (group last lower upper rest) + size (undecided lower upper rest) ≤ size rest
+  group-room =
+      omega (arith, size-union (group last lower upper rest) (undecided lower upper rest) (λ u. omega (arith, group-apart u, bit-le rest u)), size-mono (union (group last lower upper rest) (undecided lower upper rest)) rest (λ u. omega (arith, bit-union (group last lower upper rest) (undecided lower upper rest) u, group-apart u)))
+
+  -- where all are undecided, the group is empty
+  pub group-none : undecided lower upper rest ≡ rest → size (group last lower upper rest) ≡ 0
+  group-none e = omega (arith, group-room, ap size e)
 
 module _ (n i : ℕ) (s : Limits) (ss : List Limits) (h : i + length (s ∷ ss) ≡ n + 1) (rest : ℕ) where
-  abbrev bits : (u : ℕ) → Type 0
-  bits u = (bit (intersection rest (s .upper)) u ≡ min (bit rest u) (bit (s .upper) u)) × ((bit (undecided (s .lower) (s .upper) rest) u ≡ bit (intersection rest (s .upper)) u - bit (s .lower) u) × ((bit (required (s .lower) (s .upper) rest) u ≡ min (bit (intersection rest (s .upper)) u) (bit (s .lower) u)) × ((bit (forbidden (s .upper) rest) u ≡ bit rest u - bit (s .upper) u) × ((bit rest u ≤ 1) × ((bit (s .upper) u ≤ 1) × (bit (s .lower) u ≤ 1))))))
+  all-bits : (u : ℕ) → GroupBits (s .lower) (s .upper) rest u
+  all-bits u = group-bits (s .lower) (s .upper) rest u
 
-  all-bits : (u : ℕ) → bits u
-  all-bits u = (
-    bit-intersection rest (s .upper) u,
-    (
-      bit-difference (intersection rest (s .upper)) (s .lower) u,
-      (
-        bit-intersection (intersection rest (s .upper)) (s .lower) u,
-        (bit-difference rest (s .upper) u, (bit-le rest u, (bit-le (s .upper) u, bit-le (s .lower) u))),
-      ),
-    ),
-  )
-
-  first-part : (last : Bool) → Subset (firstGroup last (s .lower) (s .upper) rest) rest
-  first-part true u = omega (arith, all-bits u)
-  first-part false u = omega (arith, all-bits u)
-
-  first-front : (last : Bool) (v w : ℕ) → bit (firstGroup last (s .lower) (s .upper) rest) v ≡ 1 → bit rest w ≡ 1 → bit (firstGroup last (s .lower) (s .upper) rest) w ≡ 0
+  first-front : (last : Bool) (v w : ℕ) → bit (group last (s .lower) (s .upper) rest) v ≡ 1 → bit rest w ≡ 1 → bit (group last (s .lower) (s .upper) rest) w ≡ 0
       → toward last (ranksBefore n i (s ∷ ss)) v w ≡ true
   first-front true v w p q r = allowed-first n i s ss h w v (omega (arith, all-bits w)) (omega (arith, all-bits v))
   first-front false v w p q r = go (bit-cases (s .upper) w)
@@ -140,7 +143,7 @@ module _ (n i : ℕ) (s : Limits) (ss : List Limits) (h : i + length (s ∷ ss) 
       go (inl e) = allowed-first n i s ss h v w (omega (arith, all-bits v)) e
       go (inr e) = required-first n i s ss h v w (omega (arith, all-bits v)) (omega (arith, all-bits v)) (omega (arith, all-bits w))
 
-  first-tied : (last : Bool) (v w : ℕ) → bit (firstGroup last (s .lower) (s .upper) rest) v ≡ 1 → bit (firstGroup last (s .lower) (s .upper) rest) w ≡ 1
+  first-tied : (last : Bool) (v w : ℕ) → bit (group last (s .lower) (s .upper) rest) v ≡ 1 → bit (group last (s .lower) (s .upper) rest) w ≡ 1
       → toward last (ranksBefore n i (s ∷ ss)) v w ≡ toward last tieOrder v w
   first-tied true v w p q = forbidden-tied n i s ss h w v (omega (arith, all-bits w)) (omega (arith, all-bits v))
   first-tied false v w p q =
@@ -148,7 +151,7 @@ module _ (n i : ℕ) (s : Limits) (ss : List Limits) (h : i + length (s ∷ ss) 
 
   -- what is not in the first group
   others : Bool → ℕ
-  others last = difference rest (firstGroup last (s .lower) (s .upper) rest)
+  others last = difference rest (group last (s .lower) (s .upper) rest)
 
   far : ℕ
   far = undecided (s .lower) (s .upper) rest
@@ -170,7 +173,7 @@ module _ (n i : ℕ) (s : Limits) (ss : List Limits) (h : i + length (s ∷ ss) 
   far-open true v w p q = open-ranked n i s ss h w v (omega (arith, all-bits w)) (omega (arith, all-bits w)) (omega (arith, all-bits v)) (omega (arith, all-bits v))
   far-open false v w p q = open-ranked n i s ss h v w (omega (arith, all-bits v)) (omega (arith, all-bits v)) (omega (arith, all-bits w)) (omega (arith, all-bits w))
 
-  end-is : (last : Bool) → difference (others last) far ≡ endGroup last (s .lower) (s .upper) rest
+  end-is : (last : Bool) → difference (others last) far ≡ group (not last) (s .lower) (s .upper) rest
   unfolding far others
   end-is true =
       set-ext (difference (others true) far) (required (s .lower) (s .upper) rest)
@@ -179,7 +182,7 @@ module _ (n i : ℕ) (s : Limits) (ss : List Limits) (h : i + length (s ∷ ss) 
       set-ext (difference (others false) far) (forbidden (s .upper) rest)
       (λ u. omega (arith, all-bits u, bit-difference (others false) far u, bit-difference rest (required (s .lower) (s .upper) rest) u))
 
-  end-tied : (last : Bool) (v w : ℕ) → bit (endGroup last (s .lower) (s .upper) rest) v ≡ 1 → bit (endGroup last (s .lower) (s .upper) rest) w ≡ 1
+  end-tied : (last : Bool) (v w : ℕ) → bit (group (not last) (s .lower) (s .upper) rest) v ≡ 1 → bit (group (not last) (s .lower) (s .upper) rest) w ≡ 1
       → toward last (ranksBefore n i (s ∷ ss)) v w ≡ toward last tieOrder v w
   end-tied true v w p q =
       required-tied n i s ss h w v (omega (arith, all-bits w)) (omega (arith, all-bits w)) (omega (arith, all-bits v)) (omega (arith, all-bits v))
@@ -187,7 +190,7 @@ module _ (n i : ℕ) (s : Limits) (ss : List Limits) (h : i + length (s ∷ ss) 
 
   module _ (last : Bool) (k : ℕ) where
     first : ℕ
-    first = firstGroup last (s .lower) (s .upper) rest
+    first = group last (s .lower) (s .upper) rest
 
     ranked : Ordered (toward last (ranksBefore n i (s ∷ ss)))
     ranked = toward-ordered last (ranks-ordered n i (s ∷ ss))
@@ -196,49 +199,49 @@ module _ (n i : ℕ) (s : Limits) (ss : List Limits) (h : i + length (s ∷ ss) 
     tied = toward-ordered last ltb-ordered
 
     -- all are in the first group
-    pub taken-first : k ≤ size (firstGroup last (s .lower) (s .upper) rest)
-        → taken (toward last (ranksBefore n i (s ∷ ss))) k rest ≡ taken (toward last tieOrder) k (firstGroup last (s .lower) (s .upper) rest)
+    pub taken-first : k ≤ size (group last (s .lower) (s .upper) rest)
+        → taken (toward last (ranksBefore n i (s ∷ ss))) k rest ≡ taken (toward last tieOrder) k (group last (s .lower) (s .upper) rest)
     taken-first l =
-        taken-front ranked rest (firstGroup last (s .lower) (s .upper) rest) (first-part last) (first-front last) k l
-        ∙ taken-same ranked tied k (firstGroup last (s .lower) (s .upper) rest) l (first-tied last)
+        taken-front ranked rest (group last (s .lower) (s .upper) rest) (group-within last (s .lower) (s .upper) rest) (first-front last) k l
+        ∙ taken-same ranked tied k (group last (s .lower) (s .upper) rest) l (first-tied last)
 
-    module _ (l : size (firstGroup last (s .lower) (s .upper) rest) ≤ k) (m : k ≤ size rest) where
+    module _ (l : size (group last (s .lower) (s .upper) rest) ≤ k) (m : k ≤ size rest) where
       past-first : taken (toward last (ranksBefore n i (s ∷ ss))) k rest
-          ≡ union (firstGroup last (s .lower) (s .upper) rest) (taken (toward last (ranksBefore n i (s ∷ ss))) (k - size (firstGroup last (s .lower) (s .upper) rest)) (others last))
+          ≡ union (group last (s .lower) (s .upper) rest) (taken (toward last (ranksBefore n i (s ∷ ss))) (k - size (group last (s .lower) (s .upper) rest)) (others last))
       unfolding others
-      past-first = taken-past ranked rest (firstGroup last (s .lower) (s .upper) rest) (first-part last) (first-front last) k l m
+      past-first = taken-past ranked rest (group last (s .lower) (s .upper) rest) (group-within last (s .lower) (s .upper) rest) (first-front last) k l m
 
-      room : k - size (firstGroup last (s .lower) (s .upper) rest) ≤ size (others last)
+      room : k - size (group last (s .lower) (s .upper) rest) ≤ size (others last)
       unfolding others
-      room = omega (arith, size-difference rest (firstGroup last (s .lower) (s .upper) rest) (first-part last))
+      room = omega (arith, size-difference rest (group last (s .lower) (s .upper) rest) (group-within last (s .lower) (s .upper) rest))
 
       -- the first group is, and the others are among those left open
-      pub taken-far : k - size (firstGroup last (s .lower) (s .upper) rest) ≤ size (undecided (s .lower) (s .upper) rest)
+      pub taken-far : k - size (group last (s .lower) (s .upper) rest) ≤ size (undecided (s .lower) (s .upper) rest)
           → taken (toward last (ranksBefore n i (s ∷ ss))) k rest
-          ≡ union (firstGroup last (s .lower) (s .upper) rest) (taken (toward last (ranksBefore n (i + 1) ss)) (k - size (firstGroup last (s .lower) (s .upper) rest)) (undecided (s .lower) (s .upper) rest))
+          ≡ union (group last (s .lower) (s .upper) rest) (taken (toward last (ranksBefore n (i + 1) ss)) (k - size (group last (s .lower) (s .upper) rest)) (undecided (s .lower) (s .upper) rest))
       unfolding far
       taken-far p =
           past-first
-          ∙ ap (union (firstGroup last (s .lower) (s .upper) rest))
-          (taken-front ranked (others last) far (far-part last) (far-front last) (k - size (firstGroup last (s .lower) (s .upper) rest)) p
-          ∙ taken-same ranked (toward-ordered last (ranks-ordered n (i + 1) ss)) (k - size (firstGroup last (s .lower) (s .upper) rest)) far p (far-open last))
+          ∙ ap (union (group last (s .lower) (s .upper) rest))
+          (taken-front ranked (others last) far (far-part last) (far-front last) (k - size (group last (s .lower) (s .upper) rest)) p
+          ∙ taken-same ranked (toward-ordered last (ranks-ordered n (i + 1) ss)) (k - size (group last (s .lower) (s .upper) rest)) far p (far-open last))
 
-      end-room : size (undecided (s .lower) (s .upper) rest) ≤ k - size (firstGroup last (s .lower) (s .upper) rest)
-          → k - size (firstGroup last (s .lower) (s .upper) rest) - size (undecided (s .lower) (s .upper) rest) ≤ size (endGroup last (s .lower) (s .upper) rest)
+      end-room : size (undecided (s .lower) (s .upper) rest) ≤ k - size (group last (s .lower) (s .upper) rest)
+          → k - size (group last (s .lower) (s .upper) rest) - size (undecided (s .lower) (s .upper) rest) ≤ size (group (not last) (s .lower) (s .upper) rest)
       unfolding far
       end-room p = omega (arith, room, size-difference (others last) far (far-part last), ap size (end-is last))
 
       -- the first group and those left open are, and the others are in the last group
-      pub taken-end : size (undecided (s .lower) (s .upper) rest) ≤ k - size (firstGroup last (s .lower) (s .upper) rest)
+      pub taken-end : size (undecided (s .lower) (s .upper) rest) ≤ k - size (group last (s .lower) (s .upper) rest)
           → taken (toward last (ranksBefore n i (s ∷ ss))) k rest
-          ≡ union (firstGroup last (s .lower) (s .upper) rest) (union (undecided (s .lower) (s .upper) rest) (taken (toward last tieOrder) (k - size (firstGroup last (s .lower) (s .upper) rest) - size (undecided (s .lower) (s .upper) rest)) (endGroup last (s .lower) (s .upper) rest)))
+          ≡ union (group last (s .lower) (s .upper) rest) (union (undecided (s .lower) (s .upper) rest) (taken (toward last tieOrder) (k - size (group last (s .lower) (s .upper) rest) - size (undecided (s .lower) (s .upper) rest)) (group (not last) (s .lower) (s .upper) rest)))
       unfolding far
       taken-end p =
           past-first
-          ∙ ap (union (firstGroup last (s .lower) (s .upper) rest))
-          (taken-past ranked (others last) far (far-part last) (far-front last) (k - size (firstGroup last (s .lower) (s .upper) rest)) p room
-          ∙ ap (λ x. union far (taken (toward last (ranksBefore n i (s ∷ ss))) (k - size (firstGroup last (s .lower) (s .upper) rest) - size far) x)) (end-is last)
-          ∙ ap (union far) (taken-same ranked tied (k - size (firstGroup last (s .lower) (s .upper) rest) - size far) (endGroup last (s .lower) (s .upper) rest) (end-room p) (end-tied last)))
+          ∙ ap (union (group last (s .lower) (s .upper) rest))
+          (taken-past ranked (others last) far (far-part last) (far-front last) (k - size (group last (s .lower) (s .upper) rest)) p room
+          ∙ ap (λ x. union far (taken (toward last (ranksBefore n i (s ∷ ss))) (k - size (group last (s .lower) (s .upper) rest) - size far) x)) (end-is last)
+          ∙ ap (union far) (taken-same ranked tied (k - size (group last (s .lower) (s .upper) rest) - size far) (group (not last) (s .lower) (s .upper) rest) (end-room p) (end-tied last)))
 
 -- ---- by number, one unit after the other
 
@@ -258,24 +261,27 @@ first-by-number true c u f = record { member = f .has; least = λ v b. go v b (d
 pub first-has : (last : Bool) (c u : ℕ) → FirstByNumber last c u → bit c u ≡ 1
 first-has last c u f = first-by-number last c u f .member
 
--- what has been found with what is still to be found is all
-pub record Found (before : ℕ → ℕ → Bool) (c k found rest left : ℕ) : Type 0 where
+by-number-ordered : (last : Bool) → Ordered (toward last tieOrder)
+by-number-ordered last = toward-ordered last ltb-ordered
+
+-- what the first `left` units leave of `rest` is what the first k leave of c
+pub record Cleared (before : ℕ → ℕ → Bool) (c k rest left : ℕ) : Type 0 where
   pub enough : left ≤ size rest
-  pub all : union found (taken before left rest) ≡ taken before k c
+  pub leaves : difference rest (taken before left rest) ≡ difference c (taken before k c)
 
-pub found-none : (before : ℕ → ℕ → Bool) (c k : ℕ) → k ≤ size c → Found before c k 0 c k
-found-none before c k h = record { enough = h; all = union-empty-left (taken before k c) }
+pub clear-begun : (before : ℕ → ℕ → Bool) (c k : ℕ) → k ≤ size c → Cleared before c k c k
+clear-begun before c k h = record { enough = h; leaves = refl }
 
-pub found-one : (last : Bool) (c k found rest left u : ℕ) → 0 < left → FirstByNumber last rest u → Found (toward last tieOrder) c k found rest left
-    → Found (toward last tieOrder) c k (insert found u) (remove rest u) (left - 1)
-found-one last c k found rest left u pos f g =
+pub clear-on : (last : Bool) (c k rest left u : ℕ) → 0 < left → FirstByNumber last rest u → Cleared (toward last tieOrder) c k rest left
+    → Cleared (toward last tieOrder) c k (remove rest u) (left - 1)
+clear-on last c k rest left u pos f g =
     record {
-      enough = omega (arith, size-remove rest u (first-by-number last rest u f .member), g .enough);
-      all = union-insert found (taken (toward last tieOrder) (left - 1) (remove rest u)) u ∙ ap (union found) (sym one) ∙ g .all;
+      enough = omega (arith, size-remove rest u (goes .member), g .enough);
+      leaves = sym (difference-insert rest (taken (toward last tieOrder) (left - 1) (remove rest u)) u) ∙ ap (difference rest) (sym one) ∙ g .leaves;
     }
   where
     tied : Ordered (toward last tieOrder)
-    tied = toward-ordered last ltb-ordered
+    tied = by-number-ordered last
 
     goes : Foremost (toward last tieOrder) (λ x. bit rest x ≡ 1) u
     goes = first-by-number last rest u f
@@ -290,11 +296,34 @@ found-one last c k found rest left u pos f g =
         (one-more tied (left - 1) rest u (taken (toward last tieOrder) (left - 1) (remove rest u)) goes
         (taken-chosen tied (left - 1) (remove rest u) (omega (arith, size-remove rest u (goes .member), g .enough)))))
 
-pub found-all : (before : ℕ → ℕ → Bool) (c k found rest left : ℕ) → left ≡ 0 → Found before c k found rest left → found ≡ taken before k c
+pub clear-done : (before : ℕ → ℕ → Bool) (c k rest left : ℕ) → left ≡ 0 → Cleared before c k rest left → rest ≡ difference c (taken before k c)
 unfolding taken
-found-all before c k found rest left e g =
-    sym (union-empty-right found)
-    ∙ ap (λ (m : ℕ). union found (taken before m rest)) (sym e) ∙ g .all
+clear-done before c k rest left e g =
+    sym (difference-empty rest) ∙ ap (λ (m : ℕ). difference rest (taken before m rest)) (sym e) ∙ g .leaves
+
+-- what is left without what the first units leave is those
+pub taken-cleared : (last : Bool) (k c : ℕ) → k ≤ size c → difference c (difference c (taken (toward last tieOrder) k c)) ≡ taken (toward last tieOrder) k c
+taken-cleared last k c h =
+    difference-twice c (taken (toward last tieOrder) k c) (taken-chosen (by-number-ordered last) k c h .inside)
+
+-- and the first units are what the last ones, all the others, leave
+pub taken-others : (last : Bool) (k c : ℕ) → k ≤ size c → difference c (taken (toward (not last) tieOrder) (size c - k) c) ≡ taken (toward last tieOrder) k c
+taken-others last k c h =
+    let rest = taken (toward (not last) tieOrder) (size c - k) c in
+    let others = taken-chosen (by-number-ordered (not last)) (size c - k) c (omega arith) in
+    chosen-unique (by-number-ordered last) {h = taken (toward last tieOrder) k c}
+    (record {
+      inside = λ u. omega (arith, bit-difference c rest u);
+      counted = omega (arith, size-difference c rest (others .inside), others .counted);
+      ahead = λ v w p q r.
+          mirrored last v w
+          (others .ahead w v (omega (arith, bit-difference c rest w, bit-le rest w)) (omega (arith, bit-difference c rest v, bit-le c v)) (omega (arith, bit-difference c rest v, bit-le c v)));
+    })
+    (taken-chosen (by-number-ordered last) k c h)
+  where
+    mirrored : (b : Bool) (v w : ℕ) → toward (not b) tieOrder w v ≡ true → toward b tieOrder v w ≡ true
+    mirrored true v w e = e
+    mirrored false v w e = e
 
 -- ---- a look at one step
 
@@ -303,32 +332,40 @@ module _ (last : Bool) (lower upper rest left : ℕ) (m : left ≤ size rest) wh
   unfolding taken
   nothing-left before found = union-empty-right found
 
-  pub looked-first : left ≤ size (firstGroup last lower upper rest)
-      → Looked last lower upper rest left (record { found = taken (toward last tieOrder) left (firstGroup last lower upper rest); rest = 0; left = 0 })
+  pub looked-first : left ≤ size (group last lower upper rest)
+      → Looked last lower upper rest left (record { found = taken (toward last tieOrder) left (group last lower upper rest); rest = 0; left = 0 })
   looked-first l =
       record {
         enough = omega arith;
         same = λ k g n i ss h. nothing-left (toward last (ranksBefore n (i + 1) ss)) _ ∙ sym (taken-first n i (limits lower upper k g) ss (omega arith) rest last left l);
       }
 
-  module _ (l : size (firstGroup last lower upper rest) ≤ left) where
-    pub looked-far : left - size (firstGroup last lower upper rest) ≤ size (undecided lower upper rest)
-        → Looked last lower upper rest left (record { found = firstGroup last lower upper rest; rest = undecided lower upper rest; left = left - size (firstGroup last lower upper rest) })
+  module _ (l : size (group last lower upper rest) ≤ left) where
+    pub looked-far : left - size (group last lower upper rest) ≤ size (undecided lower upper rest)
+        → Looked last lower upper rest left (record { found = group last lower upper rest; rest = undecided lower upper rest; left = left - size (group last lower upper rest) })
     looked-far p = record { enough = p; same = λ k g n i ss h. sym (taken-far n i (limits lower upper k g) ss (omega arith) rest last left l m p) }
 
-    pub looked-end : size (undecided lower upper rest) ≤ left - size (firstGroup last lower upper rest)
-        → Looked last lower upper rest left (record { found = union (union (firstGroup last lower upper rest) (undecided lower upper rest)) (taken (toward last tieOrder) (left - size (firstGroup last lower upper rest) - size (undecided lower upper rest)) (endGroup last lower upper rest)); rest = 0; left = 0 })
+    pub looked-end : size (undecided lower upper rest) ≤ left - size (group last lower upper rest)
+        → Looked last lower upper rest left (record { found = union (union (group last lower upper rest) (undecided lower upper rest)) (taken (toward last tieOrder) (left - size (group last lower upper rest) - size (undecided lower upper rest)) (group (not last) lower upper rest)); rest = 0; left = 0 })
     looked-end p =
         record {
           enough = omega arith;
           same = λ k g n i ss h.
               nothing-left (toward last (ranksBefore n (i + 1) ss)) _
-              ∙ union-assoc (firstGroup last lower upper rest) (undecided lower upper rest) _
+              ∙ union-assoc (group last lower upper rest) (undecided lower upper rest) _
               ∙ sym (taken-end n i (limits lower upper k g) ss (omega arith) rest last left l m p);
         }
 
     -- the last group has as many as are still wanted
-    pub end-has : size (undecided lower upper rest) ≤ left - size (firstGroup last lower upper rest)
-        → left - size (firstGroup last lower upper rest) - size (undecided lower upper rest) ≤ size (endGroup last lower upper rest)
+    pub end-has : size (undecided lower upper rest) ≤ left - size (group last lower upper rest)
+        → left - size (group last lower upper rest) - size (undecided lower upper rest) ≤ size (group (not last) lower upper rest)
     end-has p =
         omega (arith, end-room 1 1 (limits lower upper 0 0) [] refl rest last left l m p)
+
+  -- where all are undecided, nothing is decided
+  pub looked-none : undecided lower upper rest ≡ rest → Looked last lower upper rest left (record { found = 0; rest = rest; left = left })
+  looked-none e =
+      let empty = size-none (group last lower upper rest) (group-none last lower upper rest e) in
+      subst₃ (λ (x y z : ℕ). Looked last lower upper rest left (record { found = x; rest = y; left = z })) empty e
+      (omega (arith, group-none last lower upper rest e))
+      (looked-far (omega (arith, group-none last lower upper rest e)) (omega (arith, group-none last lower upper rest e, ap size e)))

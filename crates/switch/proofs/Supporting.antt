@@ -1,43 +1,82 @@
--- The set of a step, one set and one number after the other, and that as many units can leave and join as are asked for.
-use mathlib.Core.Path.{_≡_, ap}
-use mathlib.Core.Bool.{Bool, true, false}
-use Prim.Native.Nat.{ℕ, _-_, _≤_}
+-- The set of a step: units leave what is begun with, or join it, and as many can as are asked for. It is never both, since where some must leave, the greatest
+-- number stays, which is enough.
+use mathlib.Core.Path.{_≡_, refl, sym, ap, _∙_}
+use mathlib.Core.Bool.{Bool, true, false, cond}
+use Prim.Native.Nat.{ℕ, _+_, _-_, _≤_}
 use native.Mathlib.Omega.{arith}
+use borrow.Author.Tests.{ltb-true, ltb-false}
+use lib.Dec.{ltb}
 use Rattle.units.specs.Limits.{hasFeasible}
 use Rattle.units.specs.Sets.{bit, union, intersection, difference, size}
 use Rattle.units.proofs.Limits.{some-feasible}
-use Rattle.units.proofs.Sets.{bit-difference, size-mono, size-difference, size-difference-le}
+use Rattle.units.proofs.Sets.{bit-difference, difference-empty, size-mono, size-difference, size-difference-le, union-empty-right}
 use Rattle.switch.specs.Toward.{toward}
 use Rattle.plans.specs.Support.{taken, supportSet}
 use Rattle.plans.specs.declared.Limits.{Limits}
 use Rattle.plans.proofs.Chosen.{taken-chosen}
 use Rattle.plans.proofs.Orders.{Ordered, mirror-ordered}
 
-module _ (lower upper least greatest : ℕ) (f : hasFeasible lower upper least greatest ≡ true) where
-  pub leave-room : (begun : ℕ) → size begun - greatest ≤ size (difference begun lower)
-  leave-room begun =
-      let (x, fits) = some-feasible lower upper least greatest .0 f in
-      omega (arith, size-difference-le begun lower, size-mono lower x (fits .includes), fits .few)
+module _ (s : Limits) (f : hasFeasible (s .lower) (s .upper) (s .least) (s .greatest) ≡ true) (begun : ℕ) where
+  -- the units that leave or join are among these
+  abbrev among : Bool → ℕ
+  among leave = cond leave (difference begun (s .lower)) (difference (s .upper) begun)
 
-  pub join-room : (kept : ℕ) → least - size kept ≤ size (difference upper kept)
-  join-room kept =
-      let (x, fits) = some-feasible lower upper least greatest .0 f in
-      omega (arith, size-difference-le upper kept, size-mono x upper (fits .within), fits .enough)
+  -- and are so many
+  abbrev asked : ℕ
+  asked = (size begun - s .greatest) + (s .least - size begun)
 
--- as many are kept as do not leave
-pub kept-many : {ranks : ℕ → ℕ → Bool} → Ordered ranks → (begun lower many over : ℕ) → many ≡ size begun → over ≤ size (difference begun lower) → (leaving : ℕ)
-    → leaving ≡ taken (toward true ranks) over (difference begun lower) → many - over ≡ size (difference begun leaving)
-kept-many {ranks} o begun lower many over count room leaving is =
-    let chosen = taken-chosen (mirror-ordered o) over (difference begun lower) room in
-    let inside : (u : ℕ) → bit leaving u ≤ bit begun u = λ u. omega (arith, ap (λ (x : ℕ). bit x u) is, chosen .inside u, bit-difference begun lower u) in
-    omega (arith, size-difference begun leaving inside, ap size is, chosen .counted)
+  leave-room : size begun - s .greatest ≤ size (difference begun (s .lower))
+  leave-room =
+      let (x, fits) = some-feasible (s .lower) (s .upper) (s .least) (s .greatest) .0 f in
+      omega (arith, size-difference-le begun (s .lower), size-mono (s .lower) x (fits .includes), fits .few)
 
--- the set of the step from the sets and numbers on the way to it
-pub support-by : (ranks : ℕ → ℕ → Bool) (s : Limits) (before : ℕ) {may begun many over from leaving kept few under free joining : ℕ}
-    → may ≡ intersection before (s .upper) → begun ≡ union may (s .lower)
-    → many ≡ size begun → over ≡ many - s .greatest → from ≡ difference begun (s .lower) → leaving ≡ taken (toward true ranks) over from
-    → kept ≡ difference begun leaving
-    → few ≡ size kept → under ≡ s .least - few → free ≡ difference (s .upper) kept → joining ≡ taken (toward false ranks) under free
-    → {r : ℕ} → r ≡ union kept joining → r ≡ supportSet ranks s before
-unfolding supportSet
-support-by ranks s before a b c d e f g h i j k l = rw (l, k, j, i, h, g, f, e, d, c, b, a)
+  join-room : s .least - size begun ≤ size (difference (s .upper) begun)
+  join-room =
+      let (x, fits) = some-feasible (s .lower) (s .upper) (s .least) (s .greatest) .0 f in
+      omega (arith, size-difference-le (s .upper) begun, size-mono x (s .upper) (fits .within), fits .enough)
+
+  least-greatest : s .least ≤ s .greatest
+  least-greatest =
+      let (x, fits) = some-feasible (s .lower) (s .upper) (s .least) (s .greatest) .0 f in
+      omega (arith, fits .enough, fits .few)
+
+  pub pick-room : (leave : Bool) → leave ≡ ltb 0 (size begun - s .greatest) → asked ≤ size (among leave)
+  pick-room true e = let some = ltb-true 0 (size begun - s .greatest) (sym e) in omega (arith, leave-room, least-greatest)
+  pick-room false e = let none = ltb-false 0 (size begun - s .greatest) (sym e) in omega (arith, join-room)
+
+  -- the set of the step, from what is begun with
+  pub supported : {ranks : ℕ → ℕ → Bool} → Ordered ranks → (before : ℕ) → begun ≡ union (intersection before (s .upper)) (s .lower)
+      → (leave : Bool) → leave ≡ ltb 0 (size begun - s .greatest) → (picked : ℕ) → picked ≡ taken (toward leave ranks) asked (among leave)
+      → cond leave (difference begun picked) (union begun picked) ≡ supportSet ranks s before
+  unfolding supportSet taken
+  supported {ranks} o before start true e picked is =
+      let some = ltb-true 0 (size begun - s .greatest) (sym e) in
+      let over : asked ≡ size begun - s .greatest = omega (arith, least-greatest) in
+      let leaving : picked ≡ taken (toward true ranks) (size begun - s .greatest) (difference begun (s .lower)) = is ∙ ap (λ (k : ℕ). taken (toward true ranks) k (difference begun (s .lower))) over in
+      let kept = difference begun picked in
+      let chosen = taken-chosen (mirror-ordered o) (size begun - s .greatest) (difference begun (s .lower)) leave-room in
+      let inside : (u : ℕ) → bit picked u ≤ bit begun u = λ u. omega (arith, ap (λ (x : ℕ). bit x u) leaving, chosen .inside u, bit-difference begun (s .lower) u) in
+      let none : 0 ≡ s .least - size kept = omega (arith, size-difference begun picked inside, ap size leaving, chosen .counted, least-greatest) in
+      sym (union-empty-right kept)
+      ∙ ap (λ (k : ℕ). union kept (taken ranks k (difference (s .upper) kept))) none
+      ∙ ap (λ (x : ℕ). union (difference begun x) (taken ranks (s .least - size (difference begun x)) (difference (s .upper) (difference begun x)))) leaving
+      ∙ ap (λ (b : ℕ). let stay = difference b (taken (toward true ranks) (size b - s .greatest) (difference b (s .lower))) in union stay (taken ranks (s .least - size stay) (difference (s .upper) stay))) start
+  supported {ranks} o before start false e picked is =
+      let few = ltb-false 0 (size begun - s .greatest) (sym e) in
+      let none : 0 ≡ size begun - s .greatest = omega arith in
+      let under : asked ≡ s .least - size begun = omega arith in
+      ap (union begun) (is ∙ ap (λ (k : ℕ). taken ranks k (difference (s .upper) begun)) under)
+      ∙ ap (λ (x : ℕ). union x (taken ranks (s .least - size x) (difference (s .upper) x))) (sym (difference-empty begun) ∙ ap (λ (k : ℕ). difference begun (taken (toward true ranks) k (difference begun (s .lower)))) none)
+      ∙ ap (λ (b : ℕ). let stay = difference b (taken (toward true ranks) (size b - s .greatest) (difference b (s .lower))) in union stay (taken ranks (s .least - size stay) (difference (s .upper) stay))) start
+
+  -- where none are asked for, it is what is begun with
+  pub supported-none : {ranks : ℕ → ℕ → Bool} → Ordered ranks → (before : ℕ) → begun ≡ union (intersection before (s .upper)) (s .lower) → asked ≡ 0
+      → begun ≡ supportSet ranks s before
+  unfolding taken
+  supported-none {ranks} o before start none =
+      let leave = ltb 0 (size begun - s .greatest) in
+      sym (same leave) ∙ supported o before start leave refl 0 (ap (λ (k : ℕ). taken (toward leave ranks) k (among leave)) (sym none))
+    where
+      same : (b : Bool) → cond b (difference begun 0) (union begun 0) ≡ begun
+      same true = difference-empty begun
+      same false = union-empty-right begun

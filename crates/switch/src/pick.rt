@@ -1,11 +1,14 @@
 // The first units of a set, by number or by rank.
+use super::group::group;
+use super::group::passes;
+use super::group::undecided;
 use super::rows::step_at;
+use super::stretch::BLOCK;
+use super::stretch::Stretch;
+use super::stretch::block_at;
 use plans::Limits;
-use units::choose;
 use units::difference;
 use units::highest;
-use units::insert;
-use units::intersection;
 use units::lowest;
 use units::remove;
 use units::size;
@@ -13,8 +16,9 @@ use units::union;
 ghost use mathlib.Core.Path.{_≡_};
 ghost use Prim.Native.Nat.{_≤_, _<_};
 ghost use lib.ListN.{length};
-ghost use Rattle.units.specs.Sets.{size};
-ghost use Rattle.switch.specs.Looked.{Looked};
+ghost use Rattle.units.specs.Sets.{difference, size};
+ghost use Rattle.switch.specs.Looked.{Looked, Ahead};
+ghost use Rattle.switch.specs.Stretches.{Blocks};
 ghost use Rattle.plans.specs.Support.{taken, tieOrder};
 ghost use Rattle.switch.specs.Toward.{toward, FirstByNumber};
 ghost use Rattle.plans.specs.Rows.{rankingAt, stepsIn, Rows};
@@ -27,21 +31,31 @@ fn first_by_number(s: u64, last: bool) -> u32
     if last { highest(s) } else { lowest(s) }
 }
 
-// The k units of s that go first by number, or last.
+// What the k units of s that go first by number, or last, leave of it.
+fn cleared(s: u64, k: u64, last: bool) -> u64
+    requires { ⌜ k ≤ size s ⌝ }
+    ensures { λ r. ⌜ r ≡ difference s (taken (toward last tieOrder) k s) ⌝ }
+{
+    let mut rest = s;
+    let mut left = k;
+    while 0 < left {
+        let u = first_by_number(rest, last);
+        rest = remove(rest, u);
+        left -= 1;
+    }
+    rest
+}
+
+// The k units of s that go first by number, or last. They are cleared, or the others are: whichever are fewer.
 pub fn by_number(s: u64, k: u64, last: bool) -> u64
     requires { ⌜ k ≤ size s ⌝ }
     ensures { λ r. ⌜ r ≡ taken (toward last tieOrder) k s ⌝ }
 {
-    let mut rest = s;
-    let mut found = 0;
-    let mut left = k;
-    while 0 < left {
-        let u = first_by_number(rest, last);
-        found = insert(found, u);
-        rest = remove(rest, u);
-        left -= 1;
+    let others = size(s) as u64 - k;
+    if k < others {
+        return difference(s, cleared(s, k, last));
     }
-    found
+    cleared(s, others, !last)
 }
 
 // What has been found of the first units of a set, and how many are left to find in the rest.
@@ -52,16 +66,20 @@ pub struct Pick {
 }
 
 // Of `left` units of `rest` that go first in the ranking from a step on, or last: those that the sets of that step decide. The others go first in
-// the ranking from the next step on.
+// the ranking from the next step on. Most steps decide nothing, and then nothing is counted.
 fn look(lower: u64, upper: u64, rest: u64, left: u64, last: bool) -> Pick
     requires { ⌜ left ≤ size rest ⌝ }
     ensures { λ r. ⌜ Looked last lower upper rest left r ⌝ }
 {
-    let allowed = intersection(rest, upper);
-    let undecided = difference(allowed, lower);
-    let required = intersection(allowed, lower);
-    let forbidden = difference(rest, upper);
-    let first = choose(last, forbidden, required);
+    let open = undecided(lower, upper, rest);
+    if open == rest {
+        return Pick {
+            found: 0,
+            rest,
+            left,
+        };
+    }
+    let first = group(lower, upper, rest, last);
     let many = size(first) as u64;
     if left <= many {
         return Pick {
@@ -71,28 +89,48 @@ fn look(lower: u64, upper: u64, rest: u64, left: u64, last: bool) -> Pick
         };
     }
     let after = left - many;
-    let others = size(undecided) as u64;
-    if others < after {
-        let end = choose(last, required, forbidden);
+    let others = size(open) as u64;
+    if others <= after {
+        let end = group(lower, upper, rest, !last);
         return Pick {
-            found: union(
-                union(first, undecided),
-                by_number(end, after - others, last),
-            ),
+            found: union(union(first, open), by_number(end, after - others, last)),
             rest: 0,
             left: 0,
         };
     }
     Pick {
         found: first,
-        rest: undecided,
+        rest: open,
         left: after,
     }
 }
 
-// The k units of c that go first in the ranking of the steps from the one at `from` on, or last.
-pub fn by_rank(rows: &[u64], from: usize, c: u64, k: u64, last: bool) -> u64
+// What a scan looks at next: the block that begins at j, if the units looked for part none of its groups, or else the step at j.
+fn ahead(rows: &[u64], blocks: &[u64], j: usize, rest: u64, left: u64, last: bool) -> Stretch
     requires { ⌜ Rows (now rows) ⌝ }
+    requires { ⌜ Blocks (stepsIn (now rows)) (now blocks) ⌝ }
+    requires { ⌜ j < length (stepsIn (now rows)) ⌝ }
+    requires { ⌜ left ≤ size rest ⌝ }
+    ensures { λ r. ⌜ Ahead last (stepsIn (now (rows .entry))) j rest left r ⌝ }
+{
+    if j % BLOCK == 0 {
+        let block = block_at(rows, blocks, j);
+        if passes(block.lower, block.upper, rest, left, last) {
+            return block;
+        }
+    }
+    let s = step_at(rows, j);
+    Stretch {
+        lower: s.lower,
+        upper: s.upper,
+        next: j + 1,
+    }
+}
+
+// The k units of c that go first in the ranking of the steps from the one at `from` on, or last.
+pub fn by_rank(rows: &[u64], blocks: &[u64], from: usize, c: u64, k: u64, last: bool) -> u64
+    requires { ⌜ Rows (now rows) ⌝ }
+    requires { ⌜ Blocks (stepsIn (now rows)) (now blocks) ⌝ }
     requires { ⌜ from ≤ length (stepsIn (now rows)) ⌝ }
     requires { ⌜ k ≤ size c ⌝ }
     ensures { λ r. ⌜ r ≡ taken (toward last (rankingAt (stepsIn (now (rows .entry))) from)) k c ⌝ }
@@ -106,12 +144,12 @@ pub fn by_rank(rows: &[u64], from: usize, c: u64, k: u64, last: bool) -> u64
         if j == n {
             return union(found, by_number(rest, left, last));
         }
-        let s = step_at(rows, j);
+        let s = ahead(rows, blocks, j, rest, left, last);
         let p = look(s.lower, s.upper, rest, left, last);
         found = union(found, p.found);
         rest = p.rest;
         left = p.left;
-        j += 1;
+        j = s.next;
     }
     found
 }

@@ -228,6 +228,17 @@ union-insert a b u =
     set-ext (union (union a (2 ^ u)) b) (union a (union b (2 ^ u)))
     (λ v. omega (arith, bit-union (union a (2 ^ u)) b v, bit-union a (2 ^ u) v, bit-union a (union b (2 ^ u)) v, bit-union b (2 ^ u) v))
 
+pub difference-insert : (a b u : ℕ) → difference a (insert b u) ≡ difference (remove a u) b
+unfolding insert remove
+difference-insert a b u =
+    set-ext (difference a (union b (2 ^ u))) (difference (difference a (2 ^ u)) b)
+    (λ v. omega (arith, bit-difference a (union b (2 ^ u)) v, bit-union b (2 ^ u) v, bit-difference (difference a (2 ^ u)) b v, bit-difference a (2 ^ u) v, bit-le a v, bit-le b v))
+
+-- what is left of a without what is left of it without b
+pub difference-twice : (a b : ℕ) → Subset b a → difference a (difference a b) ≡ b
+difference-twice a b h =
+    set-ext (difference a (difference a b)) b (λ u. omega (arith, bit-difference a (difference a b) u, bit-difference a b u, h u))
+
 -- ---- sizes
 
 pub size-step : (s : ℕ) → size s ≡ s % 2 + size (s / 2)
@@ -319,7 +330,10 @@ pub size-below : (k s : ℕ) → s < 2 ^ k → size s ≤ k
 unfolding size
 size-below k s h = ones-le k s h
 
--- a set with units is not 0
+-- a set without units is 0, and one with units is not
+pub size-none : (s : ℕ) → size s ≡ 0 → s ≡ 0
+size-none s e = set-ext s 0 (λ u. omega (arith, bit-le-size s u, bit-empty u))
+
 pub size-pos : (s : ℕ) → 0 < size s → 0 < s
 size-pos zero h = absurd (omega (arith, size-empty))
 size-pos (suc s) h = omega arith

@@ -1,69 +1,53 @@
--- `switch::pick::by_number` meets its contract. The loop's invariant: what has been found with what is still to be found is all, and the rest is a word.
-use mathlib.Core.Path.{sym, subst₂}
-use Prim.Native.Nat.{ℕ, _-_, _^_, _<_}
-use native.Mathlib.Omega.{arith}
+-- `switch::pick::by_number` meets its contract: what clearing the units leaves, taken away, is those units (`taken-cleared`), and what clearing the others
+-- leaves is those units too (`taken-others`).
+use mathlib.Core.Path.{ap, _∙_}
+use mathlib.Core.Bool.{not}
+use Prim.Native.Nat.{ℕ, _-_}
 use borrow.Author.Needs.{needs}
-use Rattle.units.proofs.Sets.{unit-below, size-pos, remove-le}
+use Rattle.units.specs.Sets.{difference}
+use Rattle.plans.specs.Support.{taken, tieOrder}
 use Rattle.switch.specs.Toward.{toward}
-use Rattle.plans.specs.Support.{tieOrder}
-use Rattle.switch.proofs.Picking.{Found, first-has, found-none, found-one, found-all}
+use Rattle.switch.proofs.Picking.{taken-cleared, taken-others}
 use Rattle.switch.proofs.pick.by_number.Statement.{statement}
 use Rattle.switch.proofs.pick.by_number.Tie as tie
 
-abbrev Inv-loop : tie.InvT-loop
-Inv-loop s k last rest₀ found₀ left₀ rest found left = Found (toward last tieOrder) s k found rest left × (rest < 2 ^ 64)
+size-requires : tie.Need-size-requires
+size-requires c κs = search needs
 
-abbrev μ-loop : tie.MeasureT-loop
-μ-loop s k last rest₀ found₀ left₀ rest found left = left
+cast-others : tie.Need-cast-others
+cast-others c = search needs
 
--- the unit is one of 64
-below : (c : tie.After-first-by-number Inv-loop μ-loop) → c .first-by-number .result < 64
-below c =
-    let l = c .before .before .loop in
-    unit-below 64 (l .rest) (c .first-by-number .result) (l .inv .1) (first-has (c .before .before .before .args .last) (l .rest) (c .first-by-number .result) (c .first-by-number .ensures))
+sub-others : tie.Need-sub-others
+sub-others c = search needs
 
-loop-holds : tie.Need-loop-holds Inv-loop μ-loop
-loop-holds c = (found-none (toward (c .args .last) tieOrder) (c .args .s) (c .args .k) (c .pre), search needs)
+cleared-requires : tie.Need-cleared-requires
+cleared-requires c κs = search needs
 
-first-by-number-requires : tie.Need-first-by-number-requires Inv-loop μ-loop
-first-by-number-requires c κs = size-pos (c .before .loop .rest) (omega (arith, c .before .loop .inv .0 .enough))
+difference-requires : tie.Need-difference-requires
+difference-requires c κs = search needs
 
-insert-requires : tie.Need-insert-requires Inv-loop μ-loop
-insert-requires c κs = below c
+returns : tie.Need-returns
+returns c = let a = c .before .before .before .before .args in c .difference .ensures ∙ ap (difference (a .s)) (c .before .cleared .ensures) ∙ taken-cleared (a .last) (a .k) (a .s) (c .before .before .before .before .pre)
 
-remove-requires : tie.Need-remove-requires Inv-loop μ-loop
-remove-requires c κs = below (c .before)
+cleared-requires-2 : tie.Need-cleared-requires-2
+cleared-requires-2 c κs = search needs
 
-sub-left : tie.Need-sub-left Inv-loop μ-loop
-sub-left c = search needs
-
-loop-less : tie.Need-loop-less Inv-loop μ-loop
-loop-less c = search needs
-
-loop-again : tie.Need-loop-again Inv-loop μ-loop
-loop-again c =
-    let a = c .before .before .before .before .before .args in
-    let l = c .before .before .before .before .loop in
-    let u = c .before .before .first-by-number .result in
-    let one = found-one (a .last) (a .s) (a .k) (l .found) (l .rest) (l .left) u (c .before .before .before .loop-test .taken) (c .before .before .first-by-number .ensures) (l .inv .0) in (
-      subst₂ (λ (f r : ℕ). Found (toward (a .last) tieOrder) (a .s) (a .k) f r (l .left - 1)) (sym (c .before .insert .ensures)) (sym (c .remove .ensures)) one,
-      omega (arith, c .remove .ensures, remove-le (l .rest) u, l .inv .1),
-    )
-
-returns : tie.Need-returns Inv-loop μ-loop
-returns c = found-all (toward (c .before .before .args .last) tieOrder) (c .before .before .args .s) (c .before .before .args .k) (c .before .loop .found) (c .before .loop .rest) (c .before .loop .left) (omega arith) (c .before .loop .inv .0)
+returns-2 : tie.Need-returns-2
+returns-2 c =
+    let a = c .before .before .before .args in
+    c .cleared2 .ensures
+    ∙ ap (λ (m : ℕ). difference (a .s) (taken (toward (not (a .last)) tieOrder) (m - a .k) (a .s))) (c .before .before .size .ensures)
+    ∙ taken-others (a .last) (a .k) (a .s) (c .before .before .before .pre)
 
 pub by-number-spec : {M : Type 1} → statement M
 by-number-spec =
     tie.close
     (tie.spec
-    Inv-loop
-    μ-loop
-    loop-holds
-    first-by-number-requires
-    insert-requires
-    remove-requires
-    sub-left
-    loop-less
-    loop-again
-    returns)
+    size-requires
+    cast-others
+    sub-others
+    cleared-requires
+    difference-requires
+    returns
+    cleared-requires-2
+    returns-2)
