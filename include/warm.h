@@ -97,8 +97,8 @@ typedef struct {
  * A plan with the fewest warm-ups, into the first places of an output, one word for each step. Places after them are left as they are, and so is
  * the whole output on a refusal. An output of WARM_STEPS places is always enough. Where several plans have as few warm-ups, FindSupport's is handed
  * out (docs/FORMAT.md), always the same.
- * Takes three walks along the chain, and for each step at most one look at it and at each step after it: n * (n + 1) / 2 looks for n steps. Uses at
- * most 11,264 bytes of stack.
+ * Takes three walks along the chain, one pass over the steps, and for each step at most 31 looks at single steps and one at each block of sixteen
+ * steps after it: in all less than a tenth of a millisecond for the largest sheets. Uses at most 11,264 bytes of stack.
  */
 warm_reply warm_plan(const uint8_t *sheet, size_t sheet_len, uint64_t *plan, size_t plan_len);
 
