@@ -88,7 +88,7 @@ impl Family {
                     step
                 }
             }
-            // one below half and one above half on, in turns, and nothing else is asked: each choice looks at all steps ahead
+            // one below half and one above half on, in turns, and nothing else is asked: each choice goes on to the last step
             Family::TwoNumbers => {
                 let many = if odd { d / 2 - 1 } else { d / 2 + 1 };
                 any(many, many)

@@ -68,10 +68,10 @@ module _ (last : Bool) (ss : List Limits) (j rest left : ℕ) where
       many : length (between ss j next) ≡ next - j
       many = omega (arith, length-take (next - j) (drop j ss), length-drop j ss)
 
-      parted : (between ss j next) ++ drop next ss ≡ drop j ss
+      parted : between ss j next ++ drop next ss ≡ drop j ss
       parted =
           let at : next ≡ j + (next - j) = omega arith in
-          ap (λ (k : ℕ). (between ss j next) ++ drop k ss) at ∙ ap (λ t. (between ss j next) ++ t) (sym (drop-drop (next - j) j ss)) ∙ take-append-drop (next - j) (drop j ss)
+          ap (λ (k : ℕ). between ss j next ++ drop k ss) at ∙ ap (λ t. between ss j next ++ t) (sym (drop-drop (next - j) j ss)) ∙ take-append-drop (next - j) (drop j ss)
 
       same : (p : Pick) → Looked last (requiredIn (between ss j next)) (allowedIn (between ss j next)) rest left p
           → union (p .found) (taken (toward last (rankingAt ss next)) (p .left) (p .rest)) ≡ taken (toward last (rankingAt ss j)) left rest

@@ -1,4 +1,4 @@
-// The first units of a set, by number or by rank.
+// The first units of a set, by number or by rank. By rank, a scan looks at the steps ahead, at a block of sixteen at once where it can.
 use super::group::group;
 use super::group::passes;
 use super::group::undecided;
