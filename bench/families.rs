@@ -106,8 +106,9 @@ impl Family {
             }
             // One unit is asked in each step: in the first of a block of sixteen steps one of the block's own, in the others the same as in the block
             // before, and in the last block units that are asked only there. One less is on from step to step, and then nearly all again. Those
-            // that come and go are asked only in the last step, which asks for all. So each choice goes on to the last step and looks at the
-            // steps of the first and of the last block one by one, and nearly each look finds a unit and has to count: the most work for the plan.
+            // that come and go are asked only in the last step, which asks for all. So each choice goes on to the last step: it looks one by
+            // one at what is left of its own block and at the last block, and once at each block between, and nearly each look decides about a unit, and
+            // has to count. The most work for the plan.
             Family::AskedInBlocks => {
                 let (block, place, quarter) = (i / 16, i as u32 % 16, d / 4);
                 let unit = match place {

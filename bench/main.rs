@@ -117,14 +117,15 @@ fn grouped(whole: &str) -> String {
     groups.join(",")
 }
 
-// The scan's time, and the library's as a part of it; empty where there is none.
+// The scan's time, and the library's divided by it; empty where there is none.
 fn scan_cells(times: &Times) -> (String, String) {
     times.scan.map_or_else(Default::default, |scan| (digits(scan), format!("{:.2}", times.library / scan)))
 }
 
 fn print_times(rows: &[Row]) {
     println!("Microseconds per call: medians, library, plain Rust and scan in turns. Outputs are not cleared between calls.");
-    println!("Slack: the bound less the fewest warm-ups. Scan: a plan in plain Rust that looks at one step after the other.\n");
+    println!("Slack: the bound less the fewest warm-ups. Scan: a plan in plain Rust that looks at one step after the other. Of the scan: the");
+    println!("library's time divided by the scan's.\n");
     println!("| steps | units | sheet            | entry          |   library |     plain | ratio |      scan | of the scan |");
     println!("|------:|------:|:-----------------|:---------------|----------:|----------:|------:|----------:|------------:|");
     for Row { case, label, task } in rows {
@@ -143,7 +144,7 @@ fn print_clearing(rows: &[Row]) {
 }
 
 fn print_growth(rows: &[Row]) {
-    println!("\nGrowth, microseconds per call of the library, and its ratio to plain Rust; the time of the scan, and the plan's as a part of it.\n");
+    println!("\nGrowth, microseconds per call of the library, and its ratio to plain Rust; the time of the scan, and the plan's divided by it.\n");
     print!("| sheet            | steps | units |  plan | ratio |  scan | of the scan |");
     println!(" chart, slack 0 | ratio | chart, slack 1 | ratio | chart, slack 2 | ratio |");
     print!("|:-----------------|------:|------:|------:|------:|------:|------------:|");

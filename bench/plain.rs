@@ -165,7 +165,7 @@ struct Pick {
 }
 
 // The sets of the steps, and those of each block of sixteen steps.
-struct Ahead<'a> {
+struct Sets<'a> {
     lower: &'a [u64],
     upper: &'a [u64],
     block_lower: [u64; STEPS / BLOCK],
@@ -205,23 +205,23 @@ fn group(lower: u64, upper: u64, rest: u64, forbids: bool) -> u64 {
     }
 }
 
-// Whether the `left` units that go first are all of the group that goes first, and else undecided ones.
-fn passes(lower: u64, upper: u64, rest: u64, left: u32, last: bool) -> bool {
-    let far = undecided(lower, upper, rest);
-    if far == rest {
+// Whether the `left` units that go first are the whole group that goes first and, beyond it, only undecided units.
+fn can_pass(lower: u64, upper: u64, rest: u64, left: u32, last: bool) -> bool {
+    let later = undecided(lower, upper, rest);
+    if later == rest {
         return true;
     }
     let many = group(lower, upper, rest, last).count_ones();
     if left < many {
         return false;
     }
-    left - many <= far.count_ones()
+    left - many <= later.count_ones()
 }
 
 // Of the `left` units that go first: those that these sets decide.
 fn look(lower: u64, upper: u64, rest: u64, left: u32, last: bool) -> Pick {
-    let far = undecided(lower, upper, rest);
-    if far == rest {
+    let later = undecided(lower, upper, rest);
+    if later == rest {
         return Pick { found: 0, rest, left };
     }
     let first = group(lower, upper, rest, last);
@@ -229,24 +229,24 @@ fn look(lower: u64, upper: u64, rest: u64, left: u32, last: bool) -> Pick {
     if left <= many {
         return Pick { found: by_number(first, left, last), rest: 0, left: 0 };
     }
-    let (after, others) = (left - many, far.count_ones());
+    let (after, others) = (left - many, later.count_ones());
     if others <= after {
         let end = group(lower, upper, rest, !last);
-        return Pick { found: first | far | by_number(end, after - others, last), rest: 0, left: 0 };
+        return Pick { found: first | later | by_number(end, after - others, last), rest: 0, left: 0 };
     }
-    Pick { found: first, rest: far, left: after }
+    Pick { found: first, rest: later, left: after }
 }
 
-impl Ahead<'_> {
+impl Sets<'_> {
     // With the sets of the blocks.
-    fn new<'a>(lower: &'a [u64], upper: &'a [u64]) -> Ahead<'a> {
-        let mut ahead = Ahead { lower, upper, block_lower: [0; STEPS / BLOCK], block_upper: [0; STEPS / BLOCK] };
+    fn new<'a>(lower: &'a [u64], upper: &'a [u64]) -> Sets<'a> {
+        let mut sets = Sets { lower, upper, block_lower: [0; STEPS / BLOCK], block_upper: [0; STEPS / BLOCK] };
         for q in 0..lower.len().div_ceil(BLOCK) {
-            let block = ahead.stretch(BLOCK * q, ahead.end(q));
-            ahead.block_lower[q] = block.lower;
-            ahead.block_upper[q] = block.upper;
+            let block = sets.stretch(BLOCK * q, sets.end(q));
+            sets.block_lower[q] = block.lower;
+            sets.block_upper[q] = block.upper;
         }
-        ahead
+        sets
     }
 
     // The step after block q.
@@ -269,7 +269,7 @@ impl Ahead<'_> {
         if j % BLOCK == 0 {
             let q = j / BLOCK;
             let (lower, upper) = (self.block_lower[q], self.block_upper[q]);
-            if passes(lower, upper, rest, left, last) {
+            if can_pass(lower, upper, rest, left, last) {
                 return Stretch { lower, upper, next: self.end(q) };
             }
         }
@@ -310,10 +310,10 @@ impl Ahead<'_> {
 
 // Fills the plan, and gives its total.
 fn make_plan(c: &Columns, x: &Summary, out: &mut [u64]) -> u32 {
-    let ahead = Ahead::new(&c.lower[..x.n], &c.upper[..x.n]);
+    let sets = Sets::new(&c.lower[..x.n], &c.upper[..x.n]);
     let (mut before, mut total) = (x.start, 0);
     for i in 0..x.n {
-        let set = ahead.step_set(i, c.least[i], c.greatest[i], before);
+        let set = sets.step_set(i, c.least[i], c.greatest[i], before);
         total += (set & !before).count_ones();
         out[i] = set;
         before = set;

@@ -26,7 +26,7 @@ fn seconds(call: impl FnOnce()) -> f64 {
     begun.elapsed().as_secs_f64()
 }
 
-// Stops the program if a call gives something else than the library's.
+// Stops the program if a caller's reply or lent memory differs from the library's.
 fn must_equal(ours: &Outputs, what: &str, task: &Task, caller: Caller, name: &str) {
     let mut theirs = Outputs::new();
     caller(task, &mut theirs);

@@ -98,7 +98,7 @@ typedef struct {
  * the whole output on a refusal. An output of WARM_STEPS places is always enough. Where several plans have as few warm-ups, FindSupport's is handed
  * out (docs/FORMAT.md), always the same.
  * Takes three walks along the chain, one pass over the steps, and for each step at most 31 looks at single steps and one at each block of sixteen
- * steps after it: in all less than a tenth of a millisecond for the largest sheets. Uses at most 11,264 bytes of stack.
+ * steps from it on: 32 * n + n * n / 32 looks at the most, for n steps. Uses at most 11,264 bytes of stack.
  */
 warm_reply warm_plan(const uint8_t *sheet, size_t sheet_len, uint64_t *plan, size_t plan_len);
 

@@ -10,7 +10,7 @@ use Rattle.units.specs.Sets.{all, union, intersection}
 use Rattle.plans.specs.Rows.{stepAt}
 use Rattle.plans.specs.declared.Limits.{Limits}
 use Rattle.plans.proofs.Laid.{steps-at}
-use Rattle.switch.specs.Stretches.{requiredIn, allowedIn, between, blockSize, blockEnd, blockWords, allWords, Blocks}
+use Rattle.switch.specs.Stretches.{requiredIn, allowedIn, between, block, blockSize, blockWords, allWords, Blocks}
 
 -- the sets of the steps from the one at j to the one before `to`
 pub record Joined (ss : List Limits) (to j lower upper : ℕ) : Type 0 where
@@ -46,10 +46,6 @@ join-on ss to j lower upper h l g =
     }
 
 -- ---- the blocks
-
--- the steps of block q
-abbrev block : List Limits → ℕ → List Limits
-block ss q = between ss (blockSize * q) (blockEnd (length ss) (blockSize * q))
 
 -- the words of the first q blocks
 pub record Filled (ss : List Limits) (words : List ℕ) (q : ℕ) : Type 0 where

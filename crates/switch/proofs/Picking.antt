@@ -1,4 +1,4 @@
--- How the first units of a set in a ranking are found by looking at one step after the other.
+-- How a look at one step finds the first units of a set in a ranking.
 --
 -- At a step the units fall into three groups: those required now, those that the step leaves open, and those forbidden now. The first group ranks before
 -- the second and that before the third; within the first and the third the tie order decides, and the second is ranked as from the next step on.
@@ -84,6 +84,9 @@ pub toward-ordered : (last : Bool) {before : ℕ → ℕ → Bool} → Ordered b
 toward-ordered false o = o
 toward-ordered true o = mirror-ordered o
 
+pub tie-ordered : (last : Bool) → Ordered (toward last tieOrder)
+tie-ordered last = toward-ordered last ltb-ordered
+
 -- ---- the groups of a step
 
 module _ (n i : ℕ) (s : Limits) (ss : List Limits) (h : i + length (s ∷ ss) ≡ n + 1) where
@@ -97,7 +100,7 @@ module _ (n i : ℕ) (s : Limits) (ss : List Limits) (h : i + length (s ∷ ss) 
 -- ---- the groups of the units of `rest`
 
 -- which group a unit is in
-abbrev pub GroupBits : ℕ → ℕ → ℕ → ℕ → Type 0
+abbrev GroupBits : ℕ → ℕ → ℕ → ℕ → Type 0
 GroupBits lower upper rest u =
     (bit (undecided lower upper rest) u ≡ min (bit rest u) (bit upper u) - bit lower u) × ((bit (required lower upper rest) u ≡ min (min (bit rest u) (bit upper u)) (bit lower u)) × ((bit (forbidden upper rest) u ≡ bit rest u - bit upper u) × ((bit rest u ≤ 1) × ((bit upper u ≤ 1) × (bit lower u ≤ 1)))))
 
@@ -189,21 +192,15 @@ module _ (n i : ℕ) (s : Limits) (ss : List Limits) (h : i + length (s ∷ ss) 
   end-tied false v w p q = forbidden-tied n i s ss h v w (omega (arith, all-bits v)) (omega (arith, all-bits w))
 
   module _ (last : Bool) (k : ℕ) where
-    first : ℕ
-    first = group last (s .lower) (s .upper) rest
-
     ranked : Ordered (toward last (ranksBefore n i (s ∷ ss)))
     ranked = toward-ordered last (ranks-ordered n i (s ∷ ss))
-
-    tied : Ordered (toward last tieOrder)
-    tied = toward-ordered last ltb-ordered
 
     -- all are in the first group
     pub taken-first : k ≤ size (group last (s .lower) (s .upper) rest)
         → taken (toward last (ranksBefore n i (s ∷ ss))) k rest ≡ taken (toward last tieOrder) k (group last (s .lower) (s .upper) rest)
     taken-first l =
         taken-front ranked rest (group last (s .lower) (s .upper) rest) (group-within last (s .lower) (s .upper) rest) (first-front last) k l
-        ∙ taken-same ranked tied k (group last (s .lower) (s .upper) rest) l (first-tied last)
+        ∙ taken-same ranked (tie-ordered last) k (group last (s .lower) (s .upper) rest) l (first-tied last)
 
     module _ (l : size (group last (s .lower) (s .upper) rest) ≤ k) (m : k ≤ size rest) where
       past-first : taken (toward last (ranksBefore n i (s ∷ ss))) k rest
@@ -241,7 +238,7 @@ module _ (n i : ℕ) (s : Limits) (ss : List Limits) (h : i + length (s ∷ ss) 
           ∙ ap (union (group last (s .lower) (s .upper) rest))
           (taken-past ranked (others last) far (far-part last) (far-front last) (k - size (group last (s .lower) (s .upper) rest)) p room
           ∙ ap (λ x. union far (taken (toward last (ranksBefore n i (s ∷ ss))) (k - size (group last (s .lower) (s .upper) rest) - size far) x)) (end-is last)
-          ∙ ap (union far) (taken-same ranked tied (k - size (group last (s .lower) (s .upper) rest) - size far) (group (not last) (s .lower) (s .upper) rest) (end-room p) (end-tied last)))
+          ∙ ap (union far) (taken-same ranked (tie-ordered last) (k - size (group last (s .lower) (s .upper) rest) - size far) (group (not last) (s .lower) (s .upper) rest) (end-room p) (end-tied last)))
 
 -- ---- by number, one unit after the other
 
@@ -261,9 +258,6 @@ first-by-number true c u f = record { member = f .has; least = λ v b. go v b (d
 pub first-has : (last : Bool) (c u : ℕ) → FirstByNumber last c u → bit c u ≡ 1
 first-has last c u f = first-by-number last c u f .member
 
-by-number-ordered : (last : Bool) → Ordered (toward last tieOrder)
-by-number-ordered last = toward-ordered last ltb-ordered
-
 -- what the first `left` units leave of `rest` is what the first k leave of c
 pub record Cleared (before : ℕ → ℕ → Bool) (c k rest left : ℕ) : Type 0 where
   pub enough : left ≤ size rest
@@ -280,9 +274,6 @@ clear-on last c k rest left u pos f g =
       leaves = sym (difference-insert rest (taken (toward last tieOrder) (left - 1) (remove rest u)) u) ∙ ap (difference rest) (sym one) ∙ g .leaves;
     }
   where
-    tied : Ordered (toward last tieOrder)
-    tied = by-number-ordered last
-
     goes : Foremost (toward last tieOrder) (λ x. bit rest x ≡ 1) u
     goes = first-by-number last rest u f
 
@@ -291,27 +282,27 @@ clear-on last c k rest left u pos f g =
 
     one : taken (toward last tieOrder) left rest ≡ insert (taken (toward last tieOrder) (left - 1) (remove rest u)) u
     one =
-        chosen-unique tied (taken-chosen tied left rest (g .enough))
+        chosen-unique (tie-ordered last) (taken-chosen (tie-ordered last) left rest (g .enough))
         (subst (λ (m : ℕ). Chosen (toward last tieOrder) m rest (insert (taken (toward last tieOrder) (left - 1) (remove rest u)) u)) sum
-        (one-more tied (left - 1) rest u (taken (toward last tieOrder) (left - 1) (remove rest u)) goes
-        (taken-chosen tied (left - 1) (remove rest u) (omega (arith, size-remove rest u (goes .member), g .enough)))))
+        (one-more (tie-ordered last) (left - 1) rest u (taken (toward last tieOrder) (left - 1) (remove rest u)) goes
+        (taken-chosen (tie-ordered last) (left - 1) (remove rest u) (omega (arith, size-remove rest u (goes .member), g .enough)))))
 
 pub clear-done : (before : ℕ → ℕ → Bool) (c k rest left : ℕ) → left ≡ 0 → Cleared before c k rest left → rest ≡ difference c (taken before k c)
 unfolding taken
 clear-done before c k rest left e g =
     sym (difference-empty rest) ∙ ap (λ (m : ℕ). difference rest (taken before m rest)) (sym e) ∙ g .leaves
 
--- what is left without what the first units leave is those
+-- a set without what its first units leave is those units
 pub taken-cleared : (last : Bool) (k c : ℕ) → k ≤ size c → difference c (difference c (taken (toward last tieOrder) k c)) ≡ taken (toward last tieOrder) k c
 taken-cleared last k c h =
-    difference-twice c (taken (toward last tieOrder) k c) (taken-chosen (by-number-ordered last) k c h .inside)
+    difference-twice c (taken (toward last tieOrder) k c) (taken-chosen (tie-ordered last) k c h .inside)
 
--- and the first units are what the last ones, all the others, leave
+-- and the first k units are what is left when all the others, the last ones, are cleared
 pub taken-others : (last : Bool) (k c : ℕ) → k ≤ size c → difference c (taken (toward (not last) tieOrder) (size c - k) c) ≡ taken (toward last tieOrder) k c
 taken-others last k c h =
     let rest = taken (toward (not last) tieOrder) (size c - k) c in
-    let others = taken-chosen (by-number-ordered (not last)) (size c - k) c (omega arith) in
-    chosen-unique (by-number-ordered last) {h = taken (toward last tieOrder) k c}
+    let others = taken-chosen (tie-ordered (not last)) (size c - k) c (omega arith) in
+    chosen-unique (tie-ordered last) {h = taken (toward last tieOrder) k c}
     (record {
       inside = λ u. omega (arith, bit-difference c rest u);
       counted = omega (arith, size-difference c rest (others .inside), others .counted);
@@ -319,7 +310,7 @@ taken-others last k c h =
           mirrored last v w
           (others .ahead w v (omega (arith, bit-difference c rest w, bit-le rest w)) (omega (arith, bit-difference c rest v, bit-le c v)) (omega (arith, bit-difference c rest v, bit-le c v)));
     })
-    (taken-chosen (by-number-ordered last) k c h)
+    (taken-chosen (tie-ordered last) k c h)
   where
     mirrored : (b : Bool) (v w : ℕ) → toward (not b) tieOrder w v ≡ true → toward b tieOrder v w ≡ true
     mirrored true v w e = e

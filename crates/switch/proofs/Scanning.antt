@@ -12,15 +12,14 @@ use Rattle.units.specs.Sets.{union, size}
 use Rattle.units.proofs.Sets.{union-assoc, union-empty-left, union-empty-right}
 use Rattle.switch.specs.declared.pick.Pick.{Pick}
 use Rattle.switch.specs.declared.stretch.Stretch.{Stretch}
-use Rattle.switch.specs.Groups.{undecided, group, passes}
+use Rattle.switch.specs.Groups.{undecided, group, canPass}
 use Rattle.switch.specs.Stretches.{requiredIn, allowedIn, between}
 use Rattle.switch.specs.Toward.{toward}
 use Rattle.plans.specs.Rows.{limits, stepAt, rankingAt}
 use Rattle.switch.specs.Looked.{Looked, Ahead}
 use Rattle.plans.specs.Support.{nextRequired, nextForbidden, requiredFirst, ranksBefore, taken, tieOrder}
 use Rattle.plans.specs.declared.Limits.{Limits}
-use Rattle.plans.proofs.Orders.{ltb-ordered}
-use Rattle.switch.proofs.Picking.{toward-ordered, taken-same, taken-far}
+use Rattle.switch.proofs.Picking.{toward-ordered, tie-ordered, taken-same, taken-far}
 use Rattle.switch.proofs.Stretching.{groupIn, undecidedIn, stretch-taken}
 use Rattle.plans.proofs.Ranks.{ranks-ordered}
 use Rattle.plans.proofs.Laid.{steps-at}
@@ -42,19 +41,19 @@ module _ (last : Bool) (ss : List Limits) (j rest left : ℕ) where
   step-ahead h =
       let s = stepAt ss j in
       record {
-        on = omega arith;
+        further = omega arith;
         within = omega arith;
         same = λ p look.
             look .same (s .least) (s .greatest) (length ss) (j + 1) (drop (j + 1) ss) (omega (arith, length-drop (j + 1) ss))
             ∙ ap (λ t. taken (toward last (ranksBefore (length ss) (j + 1) t)) left rest) (sym (steps-at ss j h));
       }
 
-  -- the steps to the one before `next`, where no group is parted
+  -- the steps to the one before `next`, where they can be passed
   pub stretch-ahead : (lower upper next : ℕ) → j < next → next ≤ length ss → lower ≡ requiredIn (between ss j next) → upper ≡ allowedIn (between ss j next)
-      → rest < 2 ^ 64 → left ≤ size rest → passes last lower upper rest left ≡ true
+      → rest < 2 ^ 64 → left ≤ size rest → canPass last lower upper rest left ≡ true
       → Ahead last ss j rest left (record { lower = lower; upper = upper; next = next })
-  stretch-ahead lower upper next on within low up small enough pass =
-      record { on = on; within = within; same = λ p look. same p (subst₂ (λ (l u : ℕ). Looked last l u rest left p) low up look) }
+  stretch-ahead lower upper next further within low up small enough pass =
+      record { further = further; within = within; same = λ p look. same p (subst₂ (λ (l u : ℕ). Looked last l u rest left p) low up look) }
     where
       parts : (leb (size (group last lower upper rest)) left ≡ true) × (leb (left - size (group last lower upper rest)) (size (undecided lower upper rest)) ≡ true)
       parts = and-eq-true-iff (leb (size (group last lower upper rest)) left) (leb (left - size (group last lower upper rest)) (size (undecided lower upper rest))) .0 pass
@@ -104,7 +103,7 @@ module _ (ss : List Limits) (from c k : ℕ) (last : Bool) where
     scan-ended e =
         let none : length ss ≤ j = omega arith in
         ap (union found)
-        (sym (taken-same (toward-ordered last (ranks-ordered (length ss) (j + 1) (drop j ss))) (toward-ordered last ltb-ordered) left rest (g .enough)
+        (sym (taken-same (toward-ordered last (ranks-ordered (length ss) (j + 1) (drop j ss))) (tie-ordered last) left rest (g .enough)
         (λ v w p q. ap (λ t. toward last (ranksBefore (length ss) (j + 1) t) v w) (drop-of-length-le ss none) ∙ ended-toward last (length ss) (j + 1) v w)))
         ∙ g .all
 

@@ -1,6 +1,7 @@
--- Steps on end taken as one: where the units that go first part none of the groups that these steps make, one look finds them (`stretch-taken`).
+-- Steps on end taken as one: where the units that go first are the whole first group of all these steps and, beyond it, only undecided units, one look finds
+-- them (`stretch-taken`).
 --
--- By induction on the steps. The first step's groups are parts of those of all, so it parts none either: its first group is taken, its last is left, and the
+-- By induction on the steps. The first step's groups are parts of those of all, so it can be passed too: its first group is taken, its last is left, and the
 -- others are chosen among the units that it leaves undecided, where the same holds for the steps after it.
 use mathlib.Core.Path.{_≡_, refl, sym, ap, _∙_}
 use mathlib.Core.Bool.{Bool, true, false, _&&_, and-eq-true-iff}

@@ -18,9 +18,10 @@ pub record Looked (last : Bool) (lower upper rest left : ℕ) (p : Pick) : Type 
   pub same : (m g n i : ℕ) (ss : List Limits) → i + length ss ≡ n
       → union (p .found) (taken (toward last (ranksBefore n (i + 1) ss)) (p .left) (p .rest)) ≡ taken (toward last (ranksBefore n i (limits lower upper m g ∷ ss))) left rest
 
--- A look at the sets of s decides of these units what the steps from the one at j to the one before `s .next` do.
+-- s stands for the steps from the one at j to the one before `s .next`: what a look at its sets finds, with the units that go first in what is left from the
+-- step at `s .next` on, is all of the units that go first from the step at j on.
 pub record Ahead (last : Bool) (ss : List Limits) (j rest left : ℕ) (s : Stretch) : Type 0 where
-  pub on : j < s .next
+  pub further : j < s .next
   pub within : s .next ≤ length ss
   pub same : (p : Pick) → Looked last (s .lower) (s .upper) rest left p
       → union (p .found) (taken (toward last (rankingAt ss (s .next))) (p .left) (p .rest)) ≡ taken (toward last (rankingAt ss j)) left rest

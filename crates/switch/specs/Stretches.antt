@@ -21,13 +21,17 @@ allowedIn (s ∷ ss) = intersection (s .upper) (union (s .lower) (allowedIn ss))
 abbrev pub between : List Limits → ℕ → ℕ → List Limits
 between ss from to = take (to - from) (drop from ss)
 
--- the steps of a block, but for the last block, which may have fewer
+-- the steps of a block of the scan; the last block may have fewer (the blocks of `forward` are its own)
 abbrev pub blockSize : ℕ
 blockSize = 16
 
--- where the block that begins at j ends
+-- the place after the last step of the block that begins at j, of n steps
 abbrev pub blockEnd : ℕ → ℕ → ℕ
 blockEnd n j = min (j + blockSize) n
+
+-- the steps of block q
+abbrev pub block : List Limits → ℕ → List Limits
+block ss q = between ss (blockSize * q) (blockEnd (length ss) (blockSize * q))
 
 -- the words of a block, and those of all blocks
 abbrev pub blockWords : ℕ
@@ -39,5 +43,5 @@ allWords = blockWords * (stepLimit / blockSize)
 -- the words of each block: what its steps require, and what they allow
 pub record Blocks (ss : List Limits) (words : List ℕ) : Type 0 where
   pub room : length words ≡ allWords
-  pub lowers : (q : ℕ) → blockSize * q < length ss → getD words (blockWords * q) 0 ≡ requiredIn (between ss (blockSize * q) (blockEnd (length ss) (blockSize * q)))
-  pub uppers : (q : ℕ) → blockSize * q < length ss → getD words (blockWords * q + 1) 0 ≡ allowedIn (between ss (blockSize * q) (blockEnd (length ss) (blockSize * q)))
+  pub lowers : (q : ℕ) → blockSize * q < length ss → getD words (blockWords * q) 0 ≡ requiredIn (block ss q)
+  pub uppers : (q : ℕ) → blockSize * q < length ss → getD words (blockWords * q + 1) 0 ≡ allowedIn (block ss q)

@@ -6,7 +6,7 @@ use units::size;
 ghost use mathlib.Core.Path.{_≡_};
 ghost use Prim.Native.Nat.{_≤_};
 ghost use Rattle.units.specs.Sets.{size};
-ghost use Rattle.switch.specs.Groups.{undecided, group, passes};
+ghost use Rattle.switch.specs.Groups.{undecided, group, canPass};
 
 // The units of `rest` that two sets leave undecided.
 pub fn undecided(lower: u64, upper: u64, rest: u64) -> u64
@@ -23,18 +23,18 @@ pub fn group(lower: u64, upper: u64, rest: u64, forbids: bool) -> u64
     choose(forbids, difference(rest, upper), required)
 }
 
-// Whether the first `left` units, or the last, part no group: they are all of the group that goes first, and undecided ones.
-pub fn passes(lower: u64, upper: u64, rest: u64, left: u64, last: bool) -> bool
+// Whether the first `left` units, or the last, are the whole group that goes first and, beyond it, only undecided units.
+pub fn can_pass(lower: u64, upper: u64, rest: u64, left: u64, last: bool) -> bool
     requires { ⌜ left ≤ size rest ⌝ }
-    ensures { λ r. ⌜ r ≡ passes last lower upper rest left ⌝ }
+    ensures { λ r. ⌜ r ≡ canPass last lower upper rest left ⌝ }
 {
-    let open = undecided(lower, upper, rest);
-    if open == rest {
+    let later = undecided(lower, upper, rest);
+    if later == rest {
         return true;
     }
     let many = size(group(lower, upper, rest, last)) as u64;
     if left < many {
         return false;
     }
-    left - many <= size(open) as u64
+    left - many <= size(later) as u64
 }

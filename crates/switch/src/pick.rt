@@ -1,6 +1,6 @@
 // The first units of a set, by number or by rank. By rank, a scan looks at the steps ahead, at a block of sixteen at once where it can.
+use super::group::can_pass;
 use super::group::group;
-use super::group::passes;
 use super::group::undecided;
 use super::rows::step_at;
 use super::stretch::BLOCK;
@@ -65,14 +65,14 @@ pub struct Pick {
     pub left: u64,
 }
 
-// Of `left` units of `rest` that go first in the ranking from a step on, or last: those that the sets of that step decide. The others go first in
-// the ranking from the next step on. Most steps decide nothing, and then nothing is counted.
+// Of `left` units of `rest` that go first in the ranking from a step on, or last: those that the sets of that step decide, or of some steps taken as one. The
+// others go first in the ranking from the step after them on. Where the sets decide nothing about `rest`, nothing is counted.
 fn look(lower: u64, upper: u64, rest: u64, left: u64, last: bool) -> Pick
     requires { ⌜ left ≤ size rest ⌝ }
     ensures { λ r. ⌜ Looked last lower upper rest left r ⌝ }
 {
-    let open = undecided(lower, upper, rest);
-    if open == rest {
+    let later = undecided(lower, upper, rest);
+    if later == rest {
         return Pick {
             found: 0,
             rest,
@@ -89,23 +89,24 @@ fn look(lower: u64, upper: u64, rest: u64, left: u64, last: bool) -> Pick
         };
     }
     let after = left - many;
-    let others = size(open) as u64;
+    let others = size(later) as u64;
     if others <= after {
         let end = group(lower, upper, rest, !last);
         return Pick {
-            found: union(union(first, open), by_number(end, after - others, last)),
+            found: union(union(first, later), by_number(end, after - others, last)),
             rest: 0,
             left: 0,
         };
     }
     Pick {
         found: first,
-        rest: open,
+        rest: later,
         left: after,
     }
 }
 
-// What a scan looks at next: the block that begins at j, if the units looked for part none of its groups, or else the step at j.
+// What a scan looks at next: the block that begins at j, if the units looked for are one of its groups whole and, beyond it, only undecided units, or else
+// the step at j.
 fn ahead(rows: &[u64], blocks: &[u64], j: usize, rest: u64, left: u64, last: bool) -> Stretch
     requires { ⌜ Rows (now rows) ⌝ }
     requires { ⌜ Blocks (stepsIn (now rows)) (now blocks) ⌝ }
@@ -115,7 +116,7 @@ fn ahead(rows: &[u64], blocks: &[u64], j: usize, rest: u64, left: u64, last: boo
 {
     if j % BLOCK == 0 {
         let block = block_at(rows, blocks, j);
-        if passes(block.lower, block.upper, rest, left, last) {
+        if can_pass(block.lower, block.upper, rest, left, last) {
             return block;
         }
     }

@@ -25,7 +25,7 @@ fn excess(a: u64, b: u64) -> u64
     if b < a { a - b } else { 0 }
 }
 
-// What is on in the step at i, where `before` was on: units leave what is begun with, or join it, and never both.
+// What is on in the step at i, where `before` was on. It begins as what was on and may be, with what must be; then units leave it, or join it, never both.
 fn step_set(rows: &[u64], blocks: &[u64], i: usize, before: u64) -> u64
     requires { ⌜ Rows (now rows) ⌝ }
     requires { ⌜ Blocks (stepsIn (now rows)) (now blocks) ⌝ }

@@ -11,7 +11,7 @@ ghost use lib.ListN.{length};
 ghost use Rattle.plans.specs.Rows.{stepLimit, stepsIn, Rows};
 ghost use Rattle.switch.specs.Stretches.{requiredIn, allowedIn, between, blockSize, blockEnd, allWords, Blocks};
 
-// The steps of a block, but for the last block, which may have fewer.
+// The steps of a block of the scan; the last block may have fewer. (The blocks of `forward` are its own.)
 pub const BLOCK: usize = 16;
 // The words of a block, and those of all blocks.
 const BLOCK_WORDS: usize = 2;
@@ -25,7 +25,7 @@ pub struct Stretch {
     pub next: usize,
 }
 
-// The steps from the one at `from` to the one before `to`.
+// The steps from the one at `from` to the one before `to`, taken as one.
 fn as_one(rows: &[u64], from: usize, to: usize) -> Stretch
     requires { ⌜ Rows (now rows) ⌝ }
     requires { ⌜ from ≤ to ⌝ }
@@ -50,7 +50,7 @@ fn as_one(rows: &[u64], from: usize, to: usize) -> Stretch
     }
 }
 
-// Where the block that begins at j ends, of n steps.
+// The place after the last step of the block that begins at j, of n steps.
 fn block_end(n: usize, j: usize) -> usize
     requires { ⌜ j < n ⌝ }
     requires { ⌜ n ≤ stepLimit ⌝ }

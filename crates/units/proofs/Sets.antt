@@ -234,7 +234,7 @@ difference-insert a b u =
     set-ext (difference a (union b (2 ^ u))) (difference (difference a (2 ^ u)) b)
     (λ v. omega (arith, bit-difference a (union b (2 ^ u)) v, bit-union b (2 ^ u) v, bit-difference (difference a (2 ^ u)) b v, bit-difference a (2 ^ u) v, bit-le a v, bit-le b v))
 
--- what is left of a without what is left of it without b
+-- a without (a without b) is b, where b lies within a
 pub difference-twice : (a b : ℕ) → Subset b a → difference a (difference a b) ≡ b
 difference-twice a b h =
     set-ext (difference a (difference a b)) b (λ u. omega (arith, bit-difference a (difference a b) u, bit-difference a b u, h u))

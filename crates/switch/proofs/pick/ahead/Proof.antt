@@ -1,4 +1,4 @@
--- `switch::pick::ahead` meets its contract: a block that parts no group is looked at as a whole (`stretch-ahead`), and else the step (`step-ahead`).
+-- `switch::pick::ahead` meets its contract: a block that can be passed is looked at as a whole (`stretch-ahead`), and else the step (`step-ahead`).
 use mathlib.Core.Path.{_≡_, sym, subst, _∙_}
 use Prim.Native.Nat.{_+_, _*_, _/_}
 use native.Mathlib.Omega.{arith}
@@ -18,8 +18,8 @@ block-at-requires c κs =
     let begins : blockSize * (c .before .before .before .args .j / blockSize) ≡ c .before .before .before .args .j = omega (arith, c .if1 .taken) in
     (p .0, (p .1 .0, (p .1 .1 .0, begins)))
 
-passes-requires : tie.Need-passes-requires
-passes-requires c κs = search needs
+can-pass-requires : tie.Need-can-pass-requires
+can-pass-requires c κs = search needs
 
 returns : tie.Need-returns
 returns c =
@@ -27,7 +27,7 @@ returns c =
     let p = c .before .before .before .before .before .before .pre in
     let b = c .before .before .block-at .result in
     let is = c .before .before .block-at .ensures in
-    stretch-ahead (a .last) (stepsIn (now (a .rows))) (a .j) (a .rest) (a .left) (b .lower) (b .upper) (b .next) (omega (arith, is .1 .1, p .1 .1 .0)) (omega (arith, is .1 .1)) (is .0) (is .1 .0) (omega arith) (p .1 .1 .1) (sym (c .before .passes .ensures) ∙ c .if2 .taken)
+    stretch-ahead (a .last) (stepsIn (now (a .rows))) (a .j) (a .rest) (a .left) (b .lower) (b .upper) (b .next) (omega (arith, is .1 .1, p .1 .1 .0)) (omega (arith, is .1 .1)) (is .0) (is .1 .0) (omega arith) (p .1 .1 .1) (sym (c .before .can-pass .ensures) ∙ c .if2 .taken)
 
 step-at-requires : tie.Need-step-at-requires
 step-at-requires c κs = search needs
@@ -47,7 +47,7 @@ ahead-spec =
     tie.close
     (tie.spec
     block-at-requires
-    passes-requires
+    can-pass-requires
     returns
     step-at-requires
     add-t9

@@ -45,7 +45,7 @@ union-requires-2 : tie.Need-union-requires-2 Inv-loop μ-loop
 union-requires-2 c κs = search needs
 
 loop-less : tie.Need-loop-less Inv-loop μ-loop
-loop-less c = omega (arith, c .before .before .ahead .ensures .on, c .before .before .ahead .ensures .within)
+loop-less c = omega (arith, c .before .before .ahead .ensures .further, c .before .before .ahead .ensures .within)
 
 loop-again : tie.Need-loop-again Inv-loop μ-loop
 loop-again c =

@@ -1,4 +1,4 @@
--- `switch::group::passes` meets its contract: where all units are undecided, the group is empty; else the test is made as it is defined.
+-- `switch::group::can_pass` meets its contract: where all units are undecided, the group is empty; else the test is made as it is defined.
 use mathlib.Core.Path.{_≡_, sym, ap, ap₂, _∙_}
 use mathlib.Core.Bool.{Bool, _&&_}
 use Prim.Native.Nat.{ℕ, _-_}
@@ -9,8 +9,8 @@ use lib.Dec.{leb}
 use Rattle.units.specs.Sets.{size}
 use Rattle.switch.specs.Groups.{undecided, group}
 use Rattle.switch.proofs.Picking.{group-none}
-use Rattle.switch.proofs.group.passes.Statement.{statement}
-use Rattle.switch.proofs.group.passes.Tie as tie
+use Rattle.switch.proofs.group.can_pass.Statement.{statement}
+use Rattle.switch.proofs.group.can_pass.Tie as tie
 
 undecided-requires : tie.Need-undecided-requires
 undecided-requires c κs = search needs
@@ -51,8 +51,8 @@ returns-3 c =
     ap₂ (λ (x y : ℕ). leb (a .left - x) y) many others
     ∙ ap (λ (b : Bool). b && leb (a .left - size (group (a .last) (a .lower) (a .upper) (a .rest))) (size (undecided (a .lower) (a .upper) (a .rest)))) (sym (le-leb (size (group (a .last) (a .lower) (a .upper) (a .rest))) (a .left) (omega arith)))
 
-pub passes-spec : {M : Type 1} → statement M
-passes-spec =
+pub can-pass-spec : {M : Type 1} → statement M
+can-pass-spec =
     tie.close
     (tie.spec
     undecided-requires
