@@ -16,6 +16,12 @@ use Rattle.plans.specs.declared.Limits.{Limits}
 use Rattle.plans.proofs.Chosen.{taken-chosen}
 use Rattle.plans.proofs.Orders.{Ordered, mirror-ordered}
 
+-- the set of a step, from what it is begun with, as FindSupport has it
+abbrev setFrom : (ℕ → ℕ → Bool) → Limits → ℕ → ℕ
+setFrom ranks s begun =
+    let kept = difference begun (taken (toward true ranks) (size begun - s .greatest) (difference begun (s .lower))) in
+    union kept (taken ranks (s .least - size kept) (difference (s .upper) kept))
+
 module _ (s : Limits) (f : hasFeasible (s .lower) (s .upper) (s .least) (s .greatest) ≡ true) (begun : ℕ) where
   -- the units that leave or join are among these
   abbrev among : Bool → ℕ
@@ -60,14 +66,14 @@ module _ (s : Limits) (f : hasFeasible (s .lower) (s .upper) (s .least) (s .grea
       sym (union-empty-right kept)
       ∙ ap (λ (k : ℕ). union kept (taken ranks k (difference (s .upper) kept))) none
       ∙ ap (λ (x : ℕ). union (difference begun x) (taken ranks (s .least - size (difference begun x)) (difference (s .upper) (difference begun x)))) leaving
-      ∙ ap (λ (b : ℕ). let stay = difference b (taken (toward true ranks) (size b - s .greatest) (difference b (s .lower))) in union stay (taken ranks (s .least - size stay) (difference (s .upper) stay))) start
+      ∙ ap (setFrom ranks s) start
   supported {ranks} o before start false e picked is =
       let few = ltb-false 0 (size begun - s .greatest) (sym e) in
       let none : 0 ≡ size begun - s .greatest = omega arith in
       let under : asked ≡ s .least - size begun = omega arith in
       ap (union begun) (is ∙ ap (λ (k : ℕ). taken ranks k (difference (s .upper) begun)) under)
       ∙ ap (λ (x : ℕ). union x (taken ranks (s .least - size x) (difference (s .upper) x))) (sym (difference-empty begun) ∙ ap (λ (k : ℕ). difference begun (taken (toward true ranks) k (difference begun (s .lower)))) none)
-      ∙ ap (λ (b : ℕ). let stay = difference b (taken (toward true ranks) (size b - s .greatest) (difference b (s .lower))) in union stay (taken ranks (s .least - size stay) (difference (s .upper) stay))) start
+      ∙ ap (setFrom ranks s) start
 
   -- where none are asked for, it is what is begun with
   pub supported-none : {ranks : ℕ → ℕ → Bool} → Ordered ranks → (before : ℕ) → begun ≡ union (intersection before (s .upper)) (s .lower) → asked ≡ 0
