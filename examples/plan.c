@@ -1,17 +1,18 @@
 /*
- * Prints the plan of the campaign sheet on standard input, and in each step the units that could be the other way round within the bound;
- * or the refusal that the sheet gets.
+ * Prints the plan of the campaign sheet on standard input, and in each step the units that could be the other way round within the bound. A sheet
+ * that is refused gets one line with the cause, on standard error, and status 1; an input that cannot be read gets status 2.
  *
  *     rt staticlib warm
- *     cc -Iinclude examples/plan.c target/staticlib/libwarm.a -o plan
- *     ./plan <examples/four_runs.sheet
+ *     mkdir -p target/c
+ *     cc -Iinclude examples/plan.c target/staticlib/libwarm.a -o target/c/plan
+ *     target/c/plan <examples/four_runs.sheet
  */
 #include "warm.h"
 
 #include <inttypes.h>
 #include <stdio.h>
 
-/* The units of a set, as in "0 2 5". */
+/* The units of a set, as in " 0 2 5". */
 static void print_units(uint64_t set)
 {
     if (set == 0)
@@ -21,9 +22,31 @@ static void print_units(uint64_t set)
             printf(" %u", u);
 }
 
+/* The line of a refusal, as in "refused 5 at record 4: the next record is already on the chain". */
 static int refused(uint32_t number, uint32_t place)
 {
-    printf("refused %" PRIu32 " %" PRIu32 "\n", number, place);
+    fprintf(stderr, "refused %" PRIu32, number);
+    switch (warm_place_of(number)) {
+    case WARM_PLACE_BYTE:
+        fprintf(stderr, " at byte %" PRIu32, place);
+        break;
+    case WARM_PLACE_RECORD:
+        if (place == 0)
+            fprintf(stderr, " at the header");
+        else
+            fprintf(stderr, " at record %" PRIu32, place);
+        break;
+    case WARM_PLACE_STEP:
+        fprintf(stderr, " at step %" PRIu32, place);
+        break;
+    case WARM_PLACE_COUNT:
+    case WARM_PLACE_WHOLE:
+        break;
+    }
+    fprintf(stderr, ": %s", warm_cause(number, place));
+    if (warm_place_of(number) == WARM_PLACE_COUNT)
+        fprintf(stderr, " (%" PRIu32 ")", place);
+    fprintf(stderr, "\n");
     return 1;
 }
 
@@ -34,6 +57,10 @@ int main(void)
     static warm_step steps[WARM_STEPS];
     static uint64_t sets[WARM_STEPS], on[WARM_STEPS], off[WARM_STEPS];
     size_t length = fread(sheet, 1, sizeof sheet, stdin);
+    if (ferror(stdin)) {
+        perror("standard input");
+        return 2;
+    }
 
     warm_steps_reply summary = warm_steps(sheet, length, steps, WARM_STEPS);
     if (summary.refusal != 0)

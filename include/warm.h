@@ -16,38 +16,63 @@
  * docs/FORMAT.md says all this at more length. No call needs a sheet that was checked before: any bytes of any length get a full reply or one
  * refusal.
  *
- * A reply whose field `refusal` is 0 is a full reply. Otherwise `refusal` is a number of the table below, `place` says where, every other
+ * A set is feasible in a step if it includes the lower set, lies within the upper set, and has a size from the least to the greatest number. A plan
+ * has one word for each step: the set of units that are on. It is feasible if the set of every step is. Its warm-ups in a step are the units that
+ * are on there and off in the step before; for the first step the start set is the step before. Its total is the sum over all steps.
+ *
+ * A reply whose field `refusal` is 0 is a full reply. Otherwise `refusal` is a number of this table, `place` says where or how many, every other
  * field is 0, and every buffer that was lent is exactly as it came.
  *
- *   refusal  cause                                                              place
- *   1        shorter than 24 or longer than 6,168 bytes                         0
- *   2        wrong letters; wrong edition                                       0; 4
- *   3        units not 1 to 64; more than 256 records; bytes 12 to 15 not       5; 6; 12; 16; 24
- *            zero; a start unit that the sheet has not; wrong length
- *   4        a record number above the number of records                        the record that holds it, 0 for the header
- *   5        the next record is already on the chain                            the record that holds the number
- *   6        a step's upper set has a unit that the sheet has not               the step, from 1
- *   7        no set of units is allowed in a step                               the step, from 1
- *   8        a lent output has fewer places than there are steps                the number of steps
- *   9        the fewest warm-ups that a plan can have exceed the bound          that fewest
- *   10       a plan that is handed in has not one word for each step            the number of steps
+ *   refusal  cause                                                                      place
+ *   1        the sheet is shorter than 24 or longer than 6,168 bytes                    0
+ *   2        the letters are not WARM                                                   byte 0
+ *   2        the edition is not 1                                                       byte 4
+ *   3        the number of units is not 1 to 64                                         byte 5
+ *   3        there are more than 256 records                                            byte 6
+ *   3        bytes 12 to 15 are not zero                                                byte 12
+ *   3        the start set has a unit that the sheet has not                            byte 16
+ *   3        the length is not that of the header and the records                       byte 24
+ *   4        the number of the first or the next record is above the number of records  record that holds it, 0 for the header
+ *   5        the next record is already on the chain                                    record that holds its number
+ *   6        the upper set has a unit that the sheet has not                            step, from 1
+ *   7        no set of units is feasible in the step                                    step, from 1
+ *   8        an output has fewer places than there are steps                            count of the steps
+ *   9        the bound is below the fewest warm-ups of any feasible plan                count of those warm-ups
+ *   10       the plan has more or fewer words than there are steps                      count of the steps
  *
- * The first cause in this order is the one that is given. warm_steps gives 1 to 8, warm_plan and warm_chart give 1 to 9, and warm_verdict gives
- * 1 to 7 and 10.
+ * The first cause in this order is the one that is given: of 4 and 5 that of the earlier link, and of 6 and 7 that of the earlier step. warm_steps
+ * gives 1 to 8, warm_plan and warm_chart give 1 to 9, and warm_verdict gives 1 to 7 and 10.
  *
- * A plan has one word for each step: the set of units that are on. It is allowed if in every step its set includes the lower set, lies within
- * the upper set, and has a size from the least to the greatest number. Its warm-ups in a step are the units that are on there and off in the
- * step before; for the first step the start set is the step before. Its total is the sum over all steps.
+ * To learn the number of steps n, call warm_steps with no list (NULL and 0): it gives refusal 8 with n as its place, or a full reply if n is 0.
  *
  * No call allocates, blocks, prints or keeps state: threads may call at will. Buffers are aligned for their type and do not overlap. A pointer
  * may be NULL where its length is 0. The archive is for x86-64 and the calling convention of Linux (System V), built for any such processor, and
- * needs memcpy and memset of its host, and at most 32,768 bytes of stack.
+ * needs memcpy and memset of its host. It has no unwind tables: a debugger, a profiler or an exception that a signal handler throws finds no way out
+ * of a call.
+ *
+ * Stack: the WARM_STACK_ numbers below are the most that a call takes, with all that it calls in the archive. They leave out what memcpy and memset
+ * take. In a program that binds functions at their first call (-z lazy, the default of many compilers), they also leave out the dynamic linker,
+ * which runs on the caller's stack where a call is the first to need memcpy or memset: with glibc 2.36, warm_verdict then went 11,496 bytes deep.
+ * Link with -z now (cc -Wl,-z,now) or statically to be sure. Frames above a page are probed page by page, from the top, so that a guard page below
+ * the stack is met and not jumped over.
  */
 #ifndef WARM_H
 #define WARM_H
 
 #include <stddef.h>
 #include <stdint.h>
+
+/* The compiler warns where a reply is not looked at, and in C++ no entry throws. */
+#if defined(__GNUC__)
+#define WARM_CHECKED __attribute__((warn_unused_result))
+#else
+#define WARM_CHECKED
+#endif
+#if defined(__cplusplus) && __cplusplus >= 201103L
+#define WARM_NOEXCEPT noexcept
+#else
+#define WARM_NOEXCEPT
+#endif
 
 #ifdef __cplusplus
 extern "C" {
@@ -60,6 +85,35 @@ extern "C" {
 #define WARM_UNITS 64
 #define WARM_STEPS 256
 #define WARM_BYTES 6168
+
+/* The most bytes of stack that a call of each entry takes, its return address among them; what they leave out is said above, under Stack. */
+#define WARM_STACK_STEPS 512
+#define WARM_STACK_PLAN 11264
+#define WARM_STACK_CHART 32768
+#define WARM_STACK_VERDICT 9216
+
+/* The numbers of the table above, by name. */
+typedef enum {
+    WARM_REFUSAL_LENGTH = 1,
+    WARM_REFUSAL_FORM = 2,
+    WARM_REFUSAL_HEADER = 3,
+    WARM_REFUSAL_RECORD_NUMBER = 4,
+    WARM_REFUSAL_LOOP = 5,
+    WARM_REFUSAL_UPPER_SET = 6,
+    WARM_REFUSAL_NO_SET = 7,
+    WARM_REFUSAL_SHORT_OUTPUT = 8,
+    WARM_REFUSAL_BOUND = 9,
+    WARM_REFUSAL_PLAN_LENGTH = 10
+} warm_refusal;
+
+/* What the place of a refusal is. */
+typedef enum {
+    WARM_PLACE_WHOLE,  /* no place in particular: the number is 0 */
+    WARM_PLACE_BYTE,   /* a byte of the sheet, from 0 */
+    WARM_PLACE_RECORD, /* a record, from 1, or 0 for the header */
+    WARM_PLACE_STEP,   /* a step, from 1 */
+    WARM_PLACE_COUNT   /* how many: the last thing that the cause in words names */
+} warm_place;
 
 /* One step: unit u has weight 2^u in a set. Of the padding nothing is said. */
 typedef struct {
@@ -82,9 +136,9 @@ typedef struct {
 
 /*
  * The steps of a sheet, into the first places of a list. Places after them are left as they are. A list of WARM_STEPS places is always enough.
- * Takes two walks along the chain of records, and one more to fill the list. Uses at most 512 bytes of stack.
+ * Takes two walks along the chain of records, and one more to fill the list.
  */
-warm_steps_reply warm_steps(const uint8_t *sheet, size_t sheet_len, warm_step *steps, size_t steps_len);
+WARM_CHECKED warm_steps_reply warm_steps(const uint8_t *sheet, size_t sheet_len, warm_step *steps, size_t steps_len) WARM_NOEXCEPT;
 
 typedef struct {
     uint32_t refusal;  /* 0, or 1 to 10 */
@@ -98,38 +152,114 @@ typedef struct {
  * the whole output on a refusal. An output of WARM_STEPS places is always enough. Where several plans have as few warm-ups, FindSupport's is handed
  * out (docs/FORMAT.md), always the same.
  * Takes three walks along the chain, one pass over the steps, and for each step at most 31 looks at single steps and one at each block of sixteen
- * steps from it on: 32 * n + n * n / 32 looks at the most, for n steps. Uses at most 11,264 bytes of stack.
+ * steps from it on: 32 * n + n * n / 32 looks at the most, for n steps.
  */
-warm_reply warm_plan(const uint8_t *sheet, size_t sheet_len, uint64_t *plan, size_t plan_len);
+WARM_CHECKED warm_reply warm_plan(const uint8_t *sheet, size_t sheet_len, uint64_t *plan, size_t plan_len) WARM_NOEXCEPT;
 
 /*
- * For each step the units that can be on and those that can be off, over all allowed plans whose total is at most the bound, into the first places
- * of two outputs, one word for each step. A unit can be in both words; one that the sheet has not is in neither. Places after them are left as
- * they are, and so are both outputs on a refusal. Outputs of WARM_STEPS places are always enough. The total is that of warm_plan.
+ * For each step the units that can be on and those that can be off, over all feasible plans whose total is at most the bound, into the first
+ * places of two outputs, one word for each step. A unit can be in both words; one that the sheet has not is in neither. Places after them are left
+ * as they are, and so are both outputs on a refusal. Outputs of WARM_STEPS places are always enough. The total is that of warm_plan.
  * Takes the time of a plan, and beyond that a time linear in n * d, for n steps and d units: in all less than a millisecond for the largest sheets.
- * Uses at most 32,768 bytes of stack.
  */
-warm_reply warm_chart(const uint8_t *sheet, size_t sheet_len, uint64_t *on, size_t on_len, uint64_t *off, size_t off_len);
+WARM_CHECKED warm_reply warm_chart(
+    const uint8_t *sheet, size_t sheet_len, uint64_t *on, size_t on_len, uint64_t *off, size_t off_len) WARM_NOEXCEPT;
 
 /*
- * Whether a plan that was made elsewhere is allowed and has a total of at most the bound, and that total, allowed or not. In the total, units that
- * the sheet has not count like any other. Writes to no lent memory.
- * Takes three walks along the chain, and one through the plan. Uses at most 9,216 bytes of stack.
+ * Whether a plan that was made elsewhere is feasible and has a total of at most the bound, and that total, feasible or not. In the total, units
+ * that the sheet has not count like any other. Writes to no lent memory.
+ * Takes three walks along the chain, and one through the plan.
  */
-warm_reply warm_verdict(const uint8_t *sheet, size_t sheet_len, const uint64_t *plan, size_t plan_len);
+WARM_CHECKED warm_reply warm_verdict(const uint8_t *sheet, size_t sheet_len, const uint64_t *plan, size_t plan_len) WARM_NOEXCEPT;
+
+/* The cause of a refusal in words, by its number and its place, as the table above has it. Never NULL: other numbers have words of their own. */
+static inline const char *warm_cause(uint32_t refusal, uint32_t place)
+{
+    switch (refusal) {
+    case WARM_REFUSAL_LENGTH:
+        return "the sheet is shorter than 24 or longer than 6,168 bytes";
+    case WARM_REFUSAL_FORM:
+        switch (place) {
+        case 0:
+            return "the letters are not WARM";
+        case 4:
+            return "the edition is not 1";
+        }
+        break;
+    case WARM_REFUSAL_HEADER:
+        switch (place) {
+        case 5:
+            return "the number of units is not 1 to 64";
+        case 6:
+            return "there are more than 256 records";
+        case 12:
+            return "bytes 12 to 15 are not zero";
+        case 16:
+            return "the start set has a unit that the sheet has not";
+        case 24:
+            return "the length is not that of the header and the records";
+        }
+        break;
+    case WARM_REFUSAL_RECORD_NUMBER:
+        return "the number of the first or the next record is above the number of records";
+    case WARM_REFUSAL_LOOP:
+        return "the next record is already on the chain";
+    case WARM_REFUSAL_UPPER_SET:
+        return "the upper set has a unit that the sheet has not";
+    case WARM_REFUSAL_NO_SET:
+        return "no set of units is feasible in the step";
+    case WARM_REFUSAL_SHORT_OUTPUT:
+        return "an output has fewer places than there are steps";
+    case WARM_REFUSAL_BOUND:
+        return "the bound is below the fewest warm-ups of any feasible plan";
+    case WARM_REFUSAL_PLAN_LENGTH:
+        return "the plan has more or fewer words than there are steps";
+    }
+    return "a refusal that this version of warm.h does not know";
+}
+
+/* What the place of a refusal is, by its number; WARM_PLACE_WHOLE if the table above has no such refusal. */
+static inline warm_place warm_place_of(uint32_t refusal)
+{
+    switch (refusal) {
+    case WARM_REFUSAL_FORM:
+    case WARM_REFUSAL_HEADER:
+        return WARM_PLACE_BYTE;
+    case WARM_REFUSAL_RECORD_NUMBER:
+    case WARM_REFUSAL_LOOP:
+        return WARM_PLACE_RECORD;
+    case WARM_REFUSAL_UPPER_SET:
+    case WARM_REFUSAL_NO_SET:
+        return WARM_PLACE_STEP;
+    case WARM_REFUSAL_SHORT_OUTPUT:
+    case WARM_REFUSAL_BOUND:
+    case WARM_REFUSAL_PLAN_LENGTH:
+        return WARM_PLACE_COUNT;
+    }
+    return WARM_PLACE_WHOLE;
+}
 
 #ifdef __cplusplus
 }
 #endif
 
-#if defined(__STDC_VERSION__) && __STDC_VERSION__ >= 201112L
-_Static_assert(sizeof(warm_step) == 24, "warm_step has 24 bytes");
-_Static_assert(offsetof(warm_step, greatest) == 17 && offsetof(warm_step, tag) == 20, "the fields of warm_step");
-_Static_assert(sizeof(warm_steps_reply) == 32, "warm_steps_reply has 32 bytes");
-_Static_assert(offsetof(warm_steps_reply, start) == 24, "the fields of warm_steps_reply");
-_Static_assert(sizeof(warm_reply) == 16, "warm_reply has 16 bytes");
-_Static_assert(offsetof(warm_reply, place) == 4 && offsetof(warm_reply, total) == 8, "the fields of warm_reply");
-_Static_assert(offsetof(warm_reply, accepted) == 12, "the fields of warm_reply");
+/* The layouts that the archive has been built for. */
+#if defined(__cplusplus) && __cplusplus >= 201103L
+#define WARM_ASSERT static_assert
+#elif defined(__STDC_VERSION__) && __STDC_VERSION__ >= 201112L
+#define WARM_ASSERT _Static_assert
 #endif
+#ifdef WARM_ASSERT
+WARM_ASSERT(sizeof(warm_step) == 24, "warm_step has 24 bytes");
+WARM_ASSERT(offsetof(warm_step, greatest) == 17 && offsetof(warm_step, tag) == 20, "the fields of warm_step");
+WARM_ASSERT(sizeof(warm_steps_reply) == 32, "warm_steps_reply has 32 bytes");
+WARM_ASSERT(offsetof(warm_steps_reply, start) == 24, "the fields of warm_steps_reply");
+WARM_ASSERT(sizeof(warm_reply) == 16, "warm_reply has 16 bytes");
+WARM_ASSERT(offsetof(warm_reply, place) == 4 && offsetof(warm_reply, total) == 8, "the fields of warm_reply");
+WARM_ASSERT(offsetof(warm_reply, accepted) == 12, "the fields of warm_reply");
+#undef WARM_ASSERT
+#endif
+#undef WARM_CHECKED
+#undef WARM_NOEXCEPT
 
 #endif

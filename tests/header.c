@@ -161,6 +161,7 @@ static void nothing_lent(void)
     must(is(warm_plan(sheet, 24, NULL, 0), 0, 0, 0, 0), "the plan of a sheet without a step");
     must(is(warm_chart(sheet, 24, NULL, 0, NULL, 0), 0, 0, 0, 0), "the chart of a sheet without a step");
     must(is(warm_verdict(sheet, 24, NULL, 0), 0, 0, 0, 1), "no words for no step");
+    must(are(warm_steps(four_runs(3), 120, NULL, 0), 8, 4, 0, 0, 0), "the number of steps");
     must(are(warm_steps(NULL, 0, NULL, 0), 1, 0, 0, 0, 0), "steps of no bytes");
     must(is(warm_plan(NULL, 0, NULL, 0), 1, 0, 0, 0), "the plan of no bytes");
     must(is(warm_chart(NULL, 0, NULL, 0, NULL, 0), 1, 0, 0, 0), "the chart of no bytes");
@@ -182,6 +183,22 @@ static void no_sheets(void)
     }
 }
 
+/* ---- refusals in words */
+
+static void words(void)
+{
+    static const char unknown[] = "a refusal that this version of warm.h does not know";
+    must(strcmp(warm_cause(WARM_REFUSAL_HEADER, 12), "bytes 12 to 15 are not zero") == 0, "a cause by its place");
+    must(strcmp(warm_cause(WARM_REFUSAL_LOOP, 12), "the next record is already on the chain") == 0, "a cause at any place");
+    must(warm_place_of(WARM_REFUSAL_HEADER) == WARM_PLACE_BYTE, "what a place is");
+    for (uint32_t number = 0; number <= 1000; number++) {
+        int known = number >= WARM_REFUSAL_LENGTH && number <= WARM_REFUSAL_PLAN_LENGTH;
+        int by_byte = number == WARM_REFUSAL_FORM || number == WARM_REFUSAL_HEADER;
+        must((strcmp(warm_cause(number, 99), unknown) == 0) == (!known || by_byte), "which causes are known");
+        must((warm_place_of(number) == WARM_PLACE_WHOLE) == (!known || number == WARM_REFUSAL_LENGTH), "which places are known");
+    }
+}
+
 int main(void)
 {
     for (size_t places = 0; places <= 6; places++) {
@@ -193,6 +210,7 @@ int main(void)
     }
     nothing_lent();
     no_sheets();
+    words();
     printf("from C: %u comparisons, no difference\n", compared);
     return 0;
 }

@@ -1,7 +1,8 @@
-//! Finds libwarm.a and tells cargo to link it: in the folder WARM_LIB_DIR if that is set, else in target/staticlib of the repository.
+//! Finds libwarm.a and tells cargo to link it: in the folder `WARM_LIB_DIR` if that is set, else in target/staticlib of the repository. A
+//! relative `WARM_LIB_DIR` counts from the root of the repository.
 
 use std::env;
-use std::path::{Path, PathBuf};
+use std::path::PathBuf;
 
 fn main() {
     println!("cargo:rerun-if-env-changed=WARM_LIB_DIR");
@@ -9,13 +10,12 @@ fn main() {
     let folder = library_folder();
     let archive = folder.join("libwarm.a");
     println!("cargo:rerun-if-changed={}", archive.display());
-    if !archive.is_file() {
-        panic!(
-            "{} is not there: run `rt staticlib warm` in the repository, which writes target/staticlib/libwarm.a, \
-             or set WARM_LIB_DIR to the folder that has libwarm.a",
-            archive.display()
-        );
-    }
+    assert!(
+        archive.is_file(),
+        "{} is not there: run `rt staticlib warm` in the repository, which writes target/staticlib/libwarm.a, \
+         or set WARM_LIB_DIR to the folder that has libwarm.a",
+        archive.display()
+    );
     println!("cargo:rustc-link-search=native={}", folder.display());
     println!("cargo:rustc-link-lib=static=warm");
 }
@@ -24,17 +24,14 @@ fn main() {
 fn check_target() {
     let arch = env::var("CARGO_CFG_TARGET_ARCH").unwrap();
     let os = env::var("CARGO_CFG_TARGET_OS").unwrap();
-    if (arch.as_str(), os.as_str()) != ("x86_64", "linux") {
-        panic!("libwarm.a, as `rt staticlib warm` writes it, is for x86-64 Linux only, and the target is {arch} {os}");
-    }
+    assert!(
+        (arch.as_str(), os.as_str()) == ("x86_64", "linux"),
+        "libwarm.a, as `rt staticlib warm` writes it, is for x86-64 Linux only, and the target is {arch} {os}"
+    );
 }
 
-/// A relative WARM_LIB_DIR is taken from the folder of this file.
 fn library_folder() -> PathBuf {
-    let here = PathBuf::from(env::var_os("CARGO_MANIFEST_DIR").unwrap());
-    let folder = match env::var_os("WARM_LIB_DIR") {
-        Some(folder) => here.join(folder),
-        None => here.join(Path::new("../../target/staticlib")),
-    };
+    let root = PathBuf::from(env::var_os("CARGO_MANIFEST_DIR").unwrap()).join("../..");
+    let folder = root.join(env::var_os("WARM_LIB_DIR").unwrap_or_else(|| "target/staticlib".into()));
     folder.canonicalize().unwrap_or(folder)
 }

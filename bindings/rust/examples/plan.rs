@@ -1,57 +1,60 @@
 //! Prints the plan of a campaign sheet, and in each step the units that could be the other way round within the bound:
 //!
-//!     cargo run --example plan -- four_runs.sheet
+//!     cargo run --example plan -- ../../examples/four_runs.sheet
 //!
-//! A sheet that is refused gets one line with the cause.
+//! A sheet that is refused gets one line with the cause, on standard error, and status 1; a wrong call or a file that cannot be read gets
+//! status 2.
 
+use std::path::PathBuf;
 use std::process::ExitCode;
 
 fn main() -> ExitCode {
-    let Some(path) = std::env::args_os().nth(1) else {
+    let arguments: Vec<PathBuf> = std::env::args_os().skip(1).map(PathBuf::from).collect();
+    let [path] = &arguments[..] else {
         eprintln!("usage: plan SHEET");
-        return ExitCode::FAILURE;
+        return ExitCode::from(2);
     };
-    let sheet = match std::fs::read(&path) {
+    let sheet = match std::fs::read(path) {
         Ok(sheet) => sheet,
         Err(error) => {
-            eprintln!("{}: {error}", path.to_string_lossy());
-            return ExitCode::FAILURE;
+            eprintln!("{}: {error}", path.display());
+            return ExitCode::from(2);
         }
     };
     match print_plan(&sheet) {
         Ok(()) => ExitCode::SUCCESS,
-        Err(refused) => {
-            println!("{refused}");
-            ExitCode::FAILURE
+        Err(error) => {
+            eprintln!("{error}");
+            ExitCode::from(1)
         }
     }
 }
 
-fn print_plan(sheet: &[u8]) -> Result<(), warm::Refused> {
-    let mut steps = [warm::Step::default(); warm::STEPS];
-    let (mut sets, mut on, mut off) = ([0; warm::STEPS], [0; warm::STEPS], [0; warm::STEPS]);
-    let summary = warm::steps(sheet, &mut steps)?;
-    let total = warm::plan(sheet, &mut sets)?;
-    warm::chart(sheet, &mut on, &mut off)?;
+fn print_plan(sheet: &[u8]) -> Result<(), warm::Error> {
+    let mut list = [warm::Step::default(); warm::STEPS];
+    let [mut sets, mut on, mut off] = [[0; warm::STEPS]; 3];
+    let campaign = warm::steps(sheet, &mut list)?;
+    let plan = warm::plan(sheet, &mut sets)?;
+    let chart = warm::chart(sheet, &mut on, &mut off)?;
 
-    println!("{} units, {} steps, at most {} warm-ups", summary.units, summary.steps, summary.bound);
-    for i in 0..summary.steps {
+    println!("{} units, {} steps, at most {} warm-ups", campaign.units, campaign.steps.len(), campaign.bound);
+    for (i, step) in campaign.steps.iter().enumerate() {
         println!(
             "step {} (job {}): on {}; could be on {}; could be off {}",
             i + 1,
-            steps[i].tag,
-            units(sets[i]),
-            units(on[i] & !sets[i]),
-            units(off[i] & sets[i]),
+            step.tag,
+            units(plan.sets[i]),
+            units(chart.on[i] & !plan.sets[i]),
+            units(chart.off[i] & plan.sets[i]),
         );
     }
-    println!("{total} warm-ups");
+    println!("{} warm-ups", plan.total);
     Ok(())
 }
 
 /// The units of a set, as in "0 2 5".
 fn units(set: u64) -> String {
-    let names: Vec<String> = (0..64).filter(|u| set >> u & 1 == 1).map(|u| u.to_string()).collect();
+    let names: Vec<String> = (0..warm::UNITS).filter(|u| set >> u & 1 == 1).map(|u| u.to_string()).collect();
     if names.is_empty() {
         "none".to_string()
     } else {

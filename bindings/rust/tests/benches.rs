@@ -4,29 +4,39 @@ mod common;
 mod reference;
 
 use common::sheets::{four_runs, Campaign};
-use warm::{chart, plan, steps, verdict, Refusal, Refused, Step, Summary, Verdict, STEPS};
+use warm::{chart, plan, step_count, steps, verdict, Error, Refusal, Step, STEPS};
 
-fn refused<T>(refusal: Refusal, place: u32) -> Result<T, Refused> {
-    Err(Refused { refusal, place })
+fn refused<T>(refusal: Refusal, place: u32) -> Result<T, Error> {
+    Err(Error::Refused { refusal, place: refusal.place(place) })
 }
 
 /// The plan's total and its words.
-fn planned(sheet: &[u8]) -> Result<(u32, Vec<u64>), Refused> {
-    let mut count = [Step::default(); STEPS];
+fn planned(sheet: &[u8]) -> Result<(u32, Vec<u64>), Error> {
     let mut words = [0; STEPS];
-    let total = plan(sheet, &mut words)?;
-    let n = steps(sheet, &mut count)?.steps;
-    Ok((total, words[..n].to_vec()))
+    let plan = plan(sheet, &mut words)?;
+    Ok((plan.total, plan.sets.to_vec()))
+}
+
+/// The chart's total, the units that can be on, and those that can be off.
+fn charted(sheet: &[u8]) -> Result<(u32, Vec<u64>, Vec<u64>), Error> {
+    let (mut on, mut off) = ([0; STEPS], [0; STEPS]);
+    let chart = chart(sheet, &mut on, &mut off)?;
+    Ok((chart.total, chart.on.to_vec(), chart.off.to_vec()))
+}
+
+/// Whether a plan is accepted, and its total.
+fn judged(sheet: &[u8], plan: &[u64]) -> Result<(bool, u32), Error> {
+    verdict(sheet, plan).map(|verdict| (verdict.accepted, verdict.total))
 }
 
 /// Two units, one of them on in the only step.
 fn one_of_two() -> Campaign {
-    Campaign { units: 2, bound: 1, start: 0, steps: vec![Step { lower: 0, upper: 3, least: 1, greatest: 1, tag: 0 }] }
+    Campaign { units: 2, bound: 1, start: 0, steps: vec![Step::new(0, 3, 1, 1, 0)] }
 }
 
 /// So many steps in which anything may be on.
 fn free(units: usize, upper: u64, steps: usize) -> Campaign {
-    let step = Step { lower: 0, upper, least: 0, greatest: 64, tag: 0 };
+    let step = Step::new(0, upper, 0, 64, 0);
     Campaign { units, bound: 0, start: 0, steps: vec![step; steps] }
 }
 
@@ -42,24 +52,24 @@ fn b1_bytes_by_hand() {
         sheet.extend([lower, 0, 0, 0, 0, 0, 0, 0, 7, 0, 0, 0, 0, 0, 0, 0, 0, 2, next, 0, 0, 0, 0, 0]);
     }
     assert_eq!(sheet, four_runs().bytes());
+    assert_eq!(sheet, warm::FOUR_RUNS);
     let mut list = [Step::default(); 4];
-    assert_eq!(steps(&sheet, &mut list), Ok(Summary { units: 3, steps: 4, bound: 3, start: 0 }));
-    assert_eq!(list, [1, 2, 4, 1].map(|lower| Step { lower, upper: 7, least: 0, greatest: 2, tag: 0 }));
+    let said = steps(&sheet, &mut list).unwrap();
+    assert_eq!((said.units, said.bound, said.start), (3, 3, 0));
+    assert_eq!(said.steps, [1, 2, 4, 1].map(|lower| Step::new(lower, 7, 0, 2, 0)));
+    assert_eq!(step_count(&sheet), Ok(4));
 }
 
 #[test]
 fn b2_bound_2() {
     let sheet = Campaign { bound: 2, ..four_runs() }.bytes();
     assert_eq!(planned(&sheet), refused(Refusal::Bound, 3));
-    assert_eq!(chart(&sheet, &mut [0; 4], &mut [0; 4]), refused(Refusal::Bound, 3));
+    assert_eq!(charted(&sheet), refused(Refusal::Bound, 3));
 }
 
 #[test]
 fn b3_chart() {
-    let (mut on, mut off) = ([0; 4], [0; 4]);
-    assert_eq!(chart(&four_runs().bytes(), &mut on, &mut off), Ok(3));
-    assert_eq!(on, [3, 3, 5, 5]);
-    assert_eq!(off, [6, 4, 2, 6]);
+    assert_eq!(charted(&four_runs().bytes()), Ok((3, vec![3, 3, 5, 5], vec![6, 4, 2, 6])));
 }
 
 #[test]
@@ -72,10 +82,13 @@ fn b5_no_step() {
     let sheet = Campaign { units: 1, bound: 0, start: 0, steps: vec![] }.bytes();
     assert_eq!(sheet.len(), 24);
     assert_eq!(planned(&sheet), Ok((0, vec![])));
-    assert_eq!(plan(&sheet, &mut []), Ok(0));
-    assert_eq!(chart(&sheet, &mut [], &mut []), Ok(0));
-    assert_eq!(verdict(&sheet, &[]), Ok(Verdict { accepted: true, total: 0 }));
-    assert_eq!(steps(&sheet, &mut []), Ok(Summary { units: 1, steps: 0, bound: 0, start: 0 }));
+    assert_eq!(charted(&sheet), Ok((0, vec![], vec![])));
+    assert_eq!(plan(&sheet, &mut []).unwrap().total, 0);
+    assert_eq!(chart(&sheet, &mut [], &mut []).unwrap().total, 0);
+    assert_eq!(judged(&sheet, &[]), Ok((true, 0)));
+    let said = steps(&sheet, &mut []).unwrap();
+    assert_eq!((said.units, said.bound, said.start, said.steps), (1, 0, 0, &[][..]));
+    assert_eq!(step_count(&sheet), Ok(0));
 }
 
 #[test]
@@ -108,9 +121,9 @@ fn b9_record_number() {
 #[test]
 fn b10_verdict() {
     let plan = [1, 2, 4, 1];
-    assert_eq!(verdict(&four_runs().bytes(), &plan), Ok(Verdict { accepted: false, total: 4 }));
+    assert_eq!(judged(&four_runs().bytes(), &plan), Ok((false, 4)));
     let wider = Campaign { bound: 4, ..four_runs() };
-    assert_eq!(verdict(&wider.bytes(), &plan), Ok(Verdict { accepted: true, total: 4 }));
+    assert_eq!(judged(&wider.bytes(), &plan), Ok((true, 4)));
 }
 
 #[test]

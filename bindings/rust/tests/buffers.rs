@@ -8,12 +8,12 @@ use common::judge::Judge;
 use common::random::Random;
 use common::sheets::{draw, four_runs, set_bound, Family};
 use reference::replies::Replies;
-use warm::{Refusal, Refused};
+use warm::{Error, Place, Refusal};
 
 /// Lengths around n, each once.
 fn lengths(n: usize) -> Vec<usize> {
     let mut lengths = vec![0, 1, n / 2, n.saturating_sub(1), n, n + 1, n + 9, 256, 300];
-    lengths.sort();
+    lengths.sort_unstable();
     lengths.dedup();
     lengths
 }
@@ -65,11 +65,11 @@ fn each_length(judge: &mut Judge, sheet: &[u8], expected: &Replies) {
 #[test]
 fn each_output_by_itself() {
     let sheet = four_runs().bytes();
-    let short = Err(Refused { refusal: Refusal::ShortOutput, place: 4 });
+    let short = Error::Refused { refusal: Refusal::ShortOutput, place: Place::Count(4) };
     let (mut on, mut off) = ([9; 5], [9; 5]);
-    assert_eq!(warm::chart(&sheet, &mut on[..3], &mut off), short);
-    assert_eq!(warm::chart(&sheet, &mut on, &mut off[..3]), short);
-    assert_eq!(warm::plan(&sheet, &mut on[..3]), short);
+    assert_eq!(warm::chart(&sheet, &mut on[..3], &mut off), Err(short));
+    assert_eq!(warm::chart(&sheet, &mut on, &mut off[..3]), Err(short));
+    assert_eq!(warm::plan(&sheet, &mut on[..3]), Err(short));
     assert_eq!((on, off), ([9; 5], [9; 5]));
 }
 
@@ -77,12 +77,13 @@ fn each_output_by_itself() {
 #[test]
 fn empty_slices() {
     let sheet = four_runs().bytes();
-    let short = Refused { refusal: Refusal::ShortOutput, place: 4 };
+    let short = Error::Refused { refusal: Refusal::ShortOutput, place: Place::Count(4) };
     assert_eq!(warm::steps(&sheet, &mut []), Err(short));
     assert_eq!(warm::plan(&sheet, &mut []), Err(short));
     assert_eq!(warm::chart(&sheet, &mut [], &mut []), Err(short));
-    assert_eq!(warm::verdict(&sheet, &[]), Err(Refused { refusal: Refusal::PlanLength, place: 4 }));
-    let none = Refused { refusal: Refusal::Length, place: 0 };
+    let other_length = Error::Refused { refusal: Refusal::PlanLength, place: Place::Count(4) };
+    assert_eq!(warm::verdict(&sheet, &[]), Err(other_length));
+    let none = Error::Refused { refusal: Refusal::Length, place: Place::Whole };
     assert_eq!(warm::steps(&[], &mut []), Err(none));
     assert_eq!(warm::plan(&[], &mut []), Err(none));
     assert_eq!(warm::chart(&[], &mut [], &mut []), Err(none));
@@ -103,7 +104,7 @@ fn threads() {
     let run = || -> Vec<_> {
         let chart = |sheet: &Vec<u8>| {
             let (mut on, mut off) = ([0; 20], [0; 20]);
-            (warm::chart(sheet, &mut on, &mut off), on, off)
+            (warm::chart(sheet, &mut on, &mut off).map(|chart| chart.total), on, off)
         };
         sheets.iter().map(chart).collect()
     };

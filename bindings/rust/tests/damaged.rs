@@ -11,7 +11,7 @@ use common::tally::Tally;
 use reference::reading::{check_header, walk};
 use reference::replies::Replies;
 use reference::Refusal;
-use warm::{Refused, Step, Summary, Verdict, STEPS};
+use warm::{Error, Step, Verdict, STEPS};
 
 /// One thing that is wrong with a sheet.
 #[derive(Clone, Copy, Debug)]
@@ -219,25 +219,26 @@ fn drawn_faults() {
 /// All that the library answers to a sheet, the lists of steps without their tags.
 #[derive(Debug, PartialEq)]
 struct Answers {
-    steps: Result<Summary, Refused>,
+    header: Result<(u32, u32, u64, usize), Error>,
     list: Vec<Step>,
-    plan: Result<u32, Refused>,
-    chart: Result<u32, Refused>,
+    plan: Result<u32, Error>,
+    chart: Result<u32, Error>,
     words: [[u64; STEPS]; 3],
-    verdict: Result<Verdict, Refused>,
+    verdict: Result<Verdict, Error>,
 }
 
 fn answers(bytes: &[u8]) -> Answers {
     let mut list = vec![Step::default(); STEPS];
     let mut words = [[7; STEPS]; 3];
     let [plan_words, on, off] = &mut words;
-    let steps = warm::steps(bytes, &mut list);
-    let plan = warm::plan(bytes, plan_words);
-    let chart = warm::chart(bytes, on, off);
-    let n = steps.map_or(0, |summary| summary.steps);
-    let verdict = warm::verdict(bytes, &plan_words[..n]);
-    list.iter_mut().for_each(|step| step.tag = 0);
-    Answers { steps, list, plan, chart, words, verdict }
+    let header = warm::steps(bytes, &mut list).map(|said| (said.units, said.bound, said.start, said.steps.len()));
+    let plan = warm::plan(bytes, plan_words).map(|plan| plan.total);
+    let chart = warm::chart(bytes, on, off).map(|chart| chart.total);
+    let verdict = warm::verdict(bytes, &plan_words[..header.map_or(0, |header| header.3)]);
+    for step in &mut list {
+        step.tag = 0;
+    }
+    Answers { header, list, plan, chart, words, verdict }
 }
 
 /// The same sheet with other tags on the chain and other bytes in the unused records.
@@ -271,7 +272,7 @@ fn twins() {
         assert_eq!(found, answers(&other), "for the sheets {} and {}", hex(&bytes), hex(&other));
         match found.plan {
             Ok(_) => tally.add("plans", 1),
-            Err(refused) => tally.add_refusal(refused.refusal.number()),
+            Err(error) => tally.add_refusal(error.number()),
         }
     }
     tally.print("twins");

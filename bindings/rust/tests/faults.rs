@@ -12,7 +12,7 @@ use reference::reading::{read, walk};
 use reference::replies::Replies;
 use reference::Refusal;
 use std::ops::RangeInclusive;
-use warm::{Step, Summary, BYTES, STEPS, UNITS};
+use warm::{Step, BYTES, STEPS, UNITS};
 
 /// The kinds of faults, in the order of the checks.
 #[derive(Clone, Copy, Debug, PartialEq, Eq, PartialOrd, Ord)]
@@ -232,25 +232,26 @@ fn put_link(bytes: &mut [u8], record: usize, next: usize) {
 /// The step with limits that no set meets, for one reason alone.
 fn without_set(kind: Kind, step: Step, units: usize, random: &mut Random) -> Step {
     let size = |set: u64| set.count_ones() as usize;
-    let numbers = |least: usize, greatest: usize| Step { least: least as u8, greatest: greatest as u8, ..step };
+    let limits =
+        |lower, upper, least: usize, greatest: usize| Step::new(lower, upper, least as u8, greatest as u8, step.tag);
     match kind {
         NotWithin => {
             let unit = 1 << random.below(units);
-            Step { lower: step.lower | unit, upper: step.upper & !unit, ..numbers(0, random.low_or_between(64, 255)) }
+            limits(step.lower | unit, step.upper & !unit, 0, random.low_or_between(64, 255))
         }
         LeastAboveGreatest => {
             let upper = step.upper | 1;
             let greatest = random.below(size(upper));
-            Step { lower: 0, upper, ..numbers(greatest + 1, greatest) }
+            limits(0, upper, greatest + 1, greatest)
         }
         LowerTooLarge => {
             let (lower, upper) = (step.lower | 1, step.upper | 1);
             let greatest = random.below(size(lower));
-            Step { lower, upper, ..numbers(random.between(0, greatest), greatest) }
+            limits(lower, upper, random.between(0, greatest), greatest)
         }
         _ => {
             let least = random.low_or_between(size(step.upper) + 1, 255);
-            numbers(least, random.low_or_between(least, 255))
+            limits(step.lower, step.upper, least, random.low_or_between(least, 255))
         }
     }
 }
@@ -258,12 +259,12 @@ fn without_set(kind: Kind, step: Step, units: usize, random: &mut Random) -> Ste
 /// Compares a sheet that is read whole.
 fn compare_sound(judge: &mut Judge, sound: &Sound) {
     let Campaign { units, bound, start, steps } = &sound.campaign;
-    let made = Summary { units: *units as u32, steps: steps.len(), bound: u32::from(*bound), start: *start };
+    let made = (*units, u32::from(*bound), *start, &steps[..]);
     let sheet = read(&sound.bytes).unwrap();
-    assert_eq!((sheet.units, sheet.bound, sheet.start, &sheet.steps), (*units, made.bound, *start, steps));
+    assert_eq!((sheet.units, sheet.bound, sheet.start, &sheet.steps[..]), made);
     let mut list = [Step::default(); STEPS];
-    assert_eq!(warm::steps(&sound.bytes, &mut list), Ok(made));
-    assert_eq!(&list[..steps.len()], steps);
+    let said = warm::steps(&sound.bytes, &mut list).unwrap();
+    assert_eq!((said.units as usize, said.bound, said.start, said.steps), made);
     judge.tally.add("sound", 1);
 }
 

@@ -1,50 +1,78 @@
 //! What a refusal says of itself, the constants, and the layout of a step.
 
 use std::collections::HashSet;
-use std::error::Error;
 use std::mem::{align_of, offset_of, size_of};
-use warm::{Refusal, Refused, Step};
+use warm::{Error, Place, Refusal, Step, UnknownRefusal};
 
 #[test]
 fn numbers_in_order() {
-    let numbers: Vec<u32> = Refusal::ALL.map(Refusal::number).to_vec();
-    assert_eq!(numbers, (1..=10).collect::<Vec<u32>>());
-    assert_eq!(Refusal::Length.number(), 1);
-    assert_eq!(Refusal::PlanLength.number(), 10);
+    for (i, &refusal) in Refusal::ALL.iter().enumerate() {
+        assert_eq!(refusal.number() as usize, i + 1);
+        assert_eq!(Refusal::try_from(refusal.number()), Ok(refusal));
+    }
+    let after_the_last = Refusal::ALL.len() as u32 + 1;
+    for number in [0, after_the_last, u32::MAX] {
+        assert_eq!(Refusal::try_from(number), Err(UnknownRefusal(number)));
+        assert_eq!(UnknownRefusal(number).to_string(), format!("there is no refusal {number}"));
+    }
 }
 
 #[test]
-fn meanings() {
-    let meanings: HashSet<&str> = Refusal::ALL.map(Refusal::meaning).into();
-    assert_eq!(meanings.len(), 10, "each cause has its own words");
-    assert!(Refusal::Bound.meaning().contains("fewest warm-ups"));
+fn lines() {
+    let lines = [
+        (Refusal::Length, 0, "refused 1: the sheet is shorter than 24 or longer than 6,168 bytes"),
+        (Refusal::Form, 0, "refused 2 at byte 0: the letters are not WARM"),
+        (Refusal::Form, 4, "refused 2 at byte 4: the edition is not 1"),
+        (Refusal::Header, 5, "refused 3 at byte 5: the number of units is not 1 to 64"),
+        (Refusal::Header, 6, "refused 3 at byte 6: there are more than 256 records"),
+        (Refusal::Header, 12, "refused 3 at byte 12: bytes 12 to 15 are not zero"),
+        (Refusal::Header, 16, "refused 3 at byte 16: the start set has a unit that the sheet has not"),
+        (Refusal::Header, 24, "refused 3 at byte 24: the length is not that of the header and the records"),
+        (
+            Refusal::RecordNumber,
+            0,
+            "refused 4 at the header: the number of the first or the next record is above the number of records",
+        ),
+        (
+            Refusal::RecordNumber,
+            7,
+            "refused 4 at record 7: the number of the first or the next record is above the number of records",
+        ),
+        (Refusal::Loop, 4, "refused 5 at record 4: the next record is already on the chain"),
+        (Refusal::UpperSet, 1, "refused 6 at step 1: the upper set has a unit that the sheet has not"),
+        (Refusal::NoSet, 256, "refused 7 at step 256: no set of units is feasible in the step"),
+        (Refusal::ShortOutput, 4, "refused 8: an output has fewer places than there are steps (4)"),
+        (Refusal::Bound, 3, "refused 9: the bound is below the fewest warm-ups of any feasible plan (3)"),
+        (Refusal::PlanLength, 4, "refused 10: the plan has more or fewer words than there are steps (4)"),
+    ];
+    for (refusal, number, line) in lines {
+        let place = refusal.place(number);
+        let error = Error::Refused { refusal, place };
+        assert_eq!(error.to_string(), line);
+        assert_eq!((error.number(), error.place(), place.number()), (refusal.number(), number, number));
+    }
+    let met: HashSet<Refusal> = lines.iter().map(|line| line.0).collect();
+    assert_eq!(met.len(), Refusal::ALL.len(), "a line for each refusal");
 }
 
 #[test]
-fn displays() {
-    let shown = |refusal, place| Refused { refusal, place }.to_string();
-    for (refusal, place, start) in [
-        (Refusal::Length, 0, "refused 1: "),
-        (Refusal::Form, 4, "refused 2 at byte 4: "),
-        (Refusal::Header, 12, "refused 3 at byte 12: "),
-        (Refusal::RecordNumber, 0, "refused 4 at the header: "),
-        (Refusal::RecordNumber, 7, "refused 4 at record 7: "),
-        (Refusal::Loop, 2, "refused 5 at record 2: "),
-        (Refusal::UpperSet, 1, "refused 6 at step 1: "),
-        (Refusal::NoSet, 256, "refused 7 at step 256: "),
-        (Refusal::ShortOutput, 4, "refused 8 (steps: 4): "),
-        (Refusal::Bound, 3, "refused 9 (fewest: 3): "),
-        (Refusal::PlanLength, 4, "refused 10 (steps: 4): "),
+fn places() {
+    for (refusal, place) in [
+        (Refusal::Length, Place::Whole),
+        (Refusal::Header, Place::Byte(12)),
+        (Refusal::Loop, Place::Record(12)),
+        (Refusal::NoSet, Place::Step(12)),
+        (Refusal::Bound, Place::Count(12)),
     ] {
-        assert_eq!(shown(refusal, place), format!("{start}{}", refusal.meaning()));
+        assert_eq!(refusal.place(12), place);
     }
 }
 
 /// With `?` in a function that gives any error.
 #[test]
 fn is_an_error() {
-    fn total(sheet: &[u8]) -> Result<u32, Box<dyn Error + Send + Sync>> {
-        Ok(warm::plan(sheet, &mut [])?)
+    fn total(sheet: &[u8]) -> Result<u32, Box<dyn std::error::Error + Send + Sync>> {
+        Ok(warm::plan(sheet, &mut [])?.total)
     }
     let error = total(b"WARM").unwrap_err();
     assert_eq!(error.to_string(), "refused 1: the sheet is shorter than 24 or longer than 6,168 bytes");

@@ -91,7 +91,7 @@ fn around_total(judge: &mut Judge, bytes: &mut [u8], replies: &Replies, plan: &[
     let total = total(replies.sheet.as_ref().unwrap().start, plan);
     for bound in [total.checked_sub(1), Some(total), Some(total + 1)].into_iter().flatten() {
         let expected = rebound(bytes, replies, bound);
-        assert_eq!(expected.verdict(plan).unwrap().accepted, bound >= total);
+        assert_eq!(expected.verdict(plan).unwrap().0, bound >= total);
         judge.verdict(bytes, &expected, plan);
     }
 }
@@ -106,7 +106,7 @@ fn broken(judge: &mut Judge, bytes: &[u8], expected: &Replies, plan: &[u64], ran
     for (way, set) in broken_sets(&sheet.steps[i], plan[i], sheet.units, random) {
         let mut other = plan.to_vec();
         other[i] = set;
-        assert!(!expected.verdict(&other).unwrap().accepted, "{way}");
+        assert!(!expected.verdict(&other).unwrap().0, "{way}");
         judge.verdict(bytes, expected, &other);
         judge.tally.add(way, 1);
     }

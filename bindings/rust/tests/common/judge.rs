@@ -5,7 +5,7 @@ use super::tally::Tally;
 use crate::reference::replies::Replies;
 use crate::reference::{units_below, Reply};
 use std::fmt::Debug;
-use warm::{Refused, Step};
+use warm::{Error, Step};
 
 /// Places of a buffer before and after the ones that are lent.
 const MARGIN: usize = 5;
@@ -40,13 +40,7 @@ pub fn words(places: usize) -> Output<u64> {
 }
 
 pub fn step_list(places: usize) -> Output<Step> {
-    Output::new(places, |word| Step {
-        lower: word,
-        upper: !word,
-        least: word as u8,
-        greatest: (word >> 8) as u8,
-        tag: (word >> 16) as u32,
-    })
+    Output::new(places, |word| Step::new(word, !word, word as u8, (word >> 8) as u8, (word >> 16) as u32))
 }
 
 pub struct Judge {
@@ -80,10 +74,14 @@ impl Judge {
 
     pub fn steps(&mut self, sheet: &[u8], expected: &Replies, places: usize) {
         let mut list = step_list(places);
-        let got = self.with_lent_sheet(sheet, |sheet| warm::steps(sheet, list.lent()));
+        let got = self.with_lent_sheet(sheet, |sheet| {
+            warm::steps(sheet, list.lent())
+                .map(|said| (said.units as usize, said.bound, said.start, said.steps.to_vec()))
+        });
         let want = expected.steps(places);
-        self.compare("steps", sheet, got, want.as_ref().map(|reply| reply.0).map_err(|&refusal| refusal));
-        list.check(want.as_ref().map_or(&[], |reply| &reply.1), "steps", sheet);
+        let said = want.map(|sheet| (sheet.units, sheet.bound, sheet.start, sheet.steps.clone()));
+        self.compare("steps", sheet, got, &said);
+        list.check(want.map_or(&[], |sheet| &sheet.steps), "steps", sheet);
         if want.is_ok() {
             self.tally.add("step lists", 1);
         }
@@ -91,9 +89,11 @@ impl Judge {
 
     pub fn plan(&mut self, sheet: &[u8], expected: &Replies, places: usize) {
         let mut output = words(places);
-        let got = self.with_lent_sheet(sheet, |sheet| warm::plan(sheet, output.lent()));
+        let got = self.with_lent_sheet(sheet, |sheet| {
+            warm::plan(sheet, output.lent()).map(|plan| (plan.total, plan.sets.to_vec()))
+        });
         let want = expected.plan(places);
-        self.compare("plan", sheet, got, want.as_ref().map(|reply| reply.0).map_err(|&refusal| refusal));
+        self.compare("plan", sheet, got, &want);
         output.check(want.as_ref().map_or(&[], |reply| &reply.1), "plan", sheet);
         if want.is_ok() {
             self.tally.add("plans", 1);
@@ -108,10 +108,13 @@ impl Judge {
 
     pub fn chart(&mut self, sheet: &[u8], expected: &Replies, on_places: usize, off_places: usize) -> [Vec<u64>; 2] {
         let (mut on, mut off) = (words(on_places), words(off_places));
-        let got = self.with_lent_sheet(sheet, |sheet| warm::chart(sheet, on.lent(), off.lent()));
+        let got = self.with_lent_sheet(sheet, |sheet| {
+            let chart = warm::chart(sheet, on.lent(), off.lent())?;
+            Ok((chart.total, chart.on.to_vec(), chart.off.to_vec()))
+        });
         let held = [on.lent().to_vec(), off.lent().to_vec()];
         let want = expected.chart(on_places, off_places);
-        self.compare("chart", sheet, got, want.as_ref().map(|reply| reply.0).map_err(|&refusal| refusal));
+        self.compare("chart", sheet, got, &want);
         on.check(want.as_ref().map_or(&[], |reply| &reply.1), "chart, on", sheet);
         off.check(want.as_ref().map_or(&[], |reply| &reply.2), "chart, off", sheet);
         if let Ok((_, on, off)) = want {
@@ -127,11 +130,12 @@ impl Judge {
         let mut handed_in = words(plan.len());
         handed_in.lent().copy_from_slice(plan);
         let got = self.with_lent_sheet(sheet, |sheet| warm::verdict(sheet, handed_in.lent()));
+        let got = got.map(|verdict| (verdict.accepted, verdict.total));
         let want = expected.verdict(plan);
-        self.compare("verdict", sheet, got, want);
+        self.compare("verdict", sheet, got, &want);
         handed_in.check(plan, "verdict", sheet);
-        if let Ok(verdict) = want {
-            self.tally.add(if verdict.accepted { "accepted" } else { "turned down" }, 1);
+        if let Ok((accepted, _)) = want {
+            self.tally.add(if accepted { "accepted" } else { "turned down" }, 1);
         }
     }
 
@@ -147,12 +151,12 @@ impl Judge {
         reply
     }
 
-    fn compare<T: Debug + PartialEq>(&mut self, call: &str, sheet: &[u8], got: Result<T, Refused>, want: Reply<T>) {
-        let got = got.map_err(|refused| (refused.refusal.number(), refused.place));
-        assert_eq!(got, want, "{call}: the reply, for the sheet {}", hex(sheet));
+    fn compare<T: Debug + PartialEq>(&mut self, call: &str, sheet: &[u8], got: Result<T, Error>, want: &Reply<T>) {
+        let got = got.map_err(|error| (error.number(), error.place()));
+        assert_eq!(&got, want, "{call}: the reply, for the sheet {}", hex(sheet));
         self.tally.add("calls", 1);
         if let Err((number, _)) = want {
-            self.tally.add_refusal(number);
+            self.tally.add_refusal(*number);
         }
     }
 
@@ -172,5 +176,5 @@ impl Judge {
 
 /// The bytes of a sheet, for the message of a failure.
 pub fn hex(bytes: &[u8]) -> String {
-    bytes.iter().map(|byte| format!("{byte:02x}")).collect()
+    bytes.iter().fold(String::new(), |text, byte| text + &format!("{byte:02x}"))
 }

@@ -14,7 +14,7 @@ pub struct Campaign {
 
 /// Three units, at most two of them on, and four steps that need 0, 1, 2 and 0 again.
 pub fn four_runs() -> Campaign {
-    let step = |lower| Step { lower, upper: 7, least: 0, greatest: 2, tag: 0 };
+    let step = |lower| Step::new(lower, 7, 0, 2, 0);
     Campaign { units: 3, bound: 3, start: 0, steps: [1, 2, 4, 1].map(step).to_vec() }
 }
 
@@ -112,7 +112,7 @@ pub fn draw(family: Family, units: usize, steps: usize, random: &mut Random) -> 
     let steps = match family {
         Family::Repeated => {
             let few: Vec<Step> = (0..random.between(2, 3)).map(|i| draw_step(Family::Any, units, i, random)).collect();
-            (0..steps).map(|_| Step { tag: random.word() as u32, ..random.pick(&few) }).collect()
+            (0..steps).map(|_| with_tag(random.word() as u32, random.pick(&few))).collect()
         }
         _ => (0..steps).map(|i| draw_step(family, units, i, random)).collect(),
     };
@@ -151,5 +151,10 @@ fn draw_step(family: Family, units: usize, i: usize, random: &mut Random) -> Ste
         Family::Sparse => random.below(2).min(greatest).min(may),
         _ => random.between(0, greatest.min(may)),
     };
-    Step { lower, upper, least: least as u8, greatest: greatest as u8, tag: random.word() as u32 }
+    Step::new(lower, upper, least as u8, greatest as u8, random.word() as u32)
+}
+
+fn with_tag(tag: u32, mut step: Step) -> Step {
+    step.tag = tag;
+    step
 }

@@ -69,10 +69,8 @@ impl Flow {
         }
         // Off: the token leaves the edge and takes another way to its end. On: a token comes, and the flow makes up for it from the end back
         // to the start.
-        let more = match carries {
-            true => self.network.shortest(start, end)? - cost,
-            false => self.network.shortest(end, start)? + cost,
-        };
+        let more =
+            if carries { self.network.shortest(start, end)? - cost } else { self.network.shortest(end, start)? + cost };
         (more < BONUS / 2).then(|| self.fewest + more as u32)
     }
 }

@@ -36,7 +36,7 @@ impl Order {
     fn new(sheet: &Sheet, i: usize) -> Order {
         let next: Vec<(usize, usize)> = (0..sheet.units).map(|u| (need(sheet, i, u), ban(sheet, i, u))).collect();
         let mut ranks: Vec<Rank> = next.iter().enumerate().map(|(u, &(need, ban))| rank(need, ban, u)).collect();
-        ranks.sort();
+        ranks.sort_unstable();
         let first = (0..=ranks.len()).map(|k| ranks[..k].iter().map(|rank| 1 << rank.2).sum()).collect();
         Order { next, ranks, first }
     }
@@ -61,9 +61,10 @@ impl Order {
 
     fn forced_rank(&self, cell: Cell) -> Rank {
         let (need, ban) = self.next[cell.u];
-        match cell.on {
-            true => rank(need.min(cell.step + 1), ban, cell.u),
-            false => rank(need, ban.min(cell.step + 1), cell.u),
+        if cell.on {
+            rank(need.min(cell.step + 1), ban, cell.u)
+        } else {
+            rank(need, ban.min(cell.step + 1), cell.u)
         }
     }
 }

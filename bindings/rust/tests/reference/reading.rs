@@ -77,13 +77,8 @@ pub fn walk(bytes: &[u8]) -> (Vec<usize>, Option<Refusal>) {
 
 fn step(bytes: &[u8], record: usize) -> Step {
     let at = 24 * record;
-    Step {
-        lower: u64_at(bytes, at),
-        upper: u64_at(bytes, at + 8),
-        least: bytes[at + 16],
-        greatest: bytes[at + 17],
-        tag: u32::from_le_bytes(bytes[at + 20..at + 24].try_into().unwrap()),
-    }
+    let tag = u32::from_le_bytes(bytes[at + 20..at + 24].try_into().unwrap());
+    Step::new(u64_at(bytes, at), u64_at(bytes, at + 8), bytes[at + 16], bytes[at + 17], tag)
 }
 
 /// Refusals 6 and 7.

@@ -6,7 +6,6 @@ use super::support::find_support;
 use super::{feasible, total, Cells, Reply};
 use std::cell::OnceCell;
 use std::rc::Rc;
-use warm::{Step, Summary, Verdict};
 
 /// A full reply of `chart`: the plan's total, the units that can be on, those that can be off.
 pub type Chart = (u32, Vec<u64>, Vec<u64>);
@@ -68,13 +67,12 @@ impl Replies {
         self.campaign().exact.cheapest(step, u, on)
     }
 
-    pub fn steps(&self, places: usize) -> Reply<(Summary, Vec<Step>)> {
-        let sheet = self.with_places(places)?;
-        let units = sheet.units as u32;
-        let summary = Summary { units, steps: sheet.steps.len(), bound: sheet.bound, start: sheet.start };
-        Ok((summary, sheet.steps.clone()))
+    /// What the sheet says.
+    pub fn steps(&self, places: usize) -> Reply<&Sheet> {
+        self.with_places(places)
     }
 
+    /// The plan's total, and its sets.
     pub fn plan(&self, places: usize) -> Reply<(u32, Vec<u64>)> {
         let sheet = self.within_bound(places)?;
         Ok((total(sheet.start, self.support()), self.support().to_vec()))
@@ -84,16 +82,6 @@ impl Replies {
         let sheet = self.within_bound(on_places.min(off_places))?;
         let [on, off] = [true, false].map(|on| (0..self.n()).map(|i| self.can_be(sheet, i, on)).collect());
         Ok((total(sheet.start, self.support()), on, off))
-    }
-
-    pub fn verdict(&self, plan: &[u64]) -> Reply<Verdict> {
-        let sheet = self.sheet.as_ref().map_err(|&refusal| refusal)?;
-        if plan.len() != self.n() {
-            return Err((10, self.n() as u32));
-        }
-        let total = total(sheet.start, plan);
-        let all_feasible = sheet.steps.iter().zip(plan).all(|(step, &set)| feasible(step, set));
-        Ok(Verdict { accepted: all_feasible && total <= sheet.bound, total })
     }
 
     /// Refusals 1 to 8.
@@ -112,6 +100,17 @@ impl Replies {
             return Err((9, self.fewest()));
         }
         Ok(sheet)
+    }
+
+    /// Whether the plan meets the sheet, and its total.
+    pub fn verdict(&self, plan: &[u64]) -> Reply<(bool, u32)> {
+        let sheet = self.sheet.as_ref().map_err(|&refusal| refusal)?;
+        if plan.len() != self.n() {
+            return Err((10, self.n() as u32));
+        }
+        let total = total(sheet.start, plan);
+        let all_feasible = sheet.steps.iter().zip(plan).all(|(step, &set)| feasible(step, set));
+        Ok((all_feasible && total <= sheet.bound, total))
     }
 
     /// The units that can be on (or off) in a step within the bound.

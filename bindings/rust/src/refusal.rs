@@ -1,0 +1,240 @@
+//! What a call gives where there is no full reply: a cause with its place, and both in words.
+
+use core::fmt;
+
+/// The cause of a refusal. Causes are checked in this order, and the first that holds is given.
+#[derive(Clone, Copy, Debug, PartialEq, Eq, Hash)]
+#[repr(u32)]
+#[non_exhaustive]
+pub enum Refusal {
+    /// 1: the sheet is shorter than 24 or longer than 6,168 bytes. [`Place::Whole`].
+    Length = 1,
+    /// 2: the letters are not WARM, [`Place::Byte`] 0; or the edition is not 1, byte 4.
+    Form = 2,
+    /// 3: the number of units is not 1 to 64, [`Place::Byte`] 5; or there are more than 256 records, byte 6; or bytes 12 to 15 are not
+    /// zero, byte 12; or the start set has a unit that the sheet has not, byte 16; or the length is not that of the header and the records,
+    /// byte 24.
+    Header = 3,
+    /// 4: the number of the first or the next record is above the number of records. [`Place::Record`]: the one that holds it, 0 for the
+    /// header.
+    RecordNumber = 4,
+    /// 5: the next record is already on the chain. [`Place::Record`]: the one that holds its number.
+    Loop = 5,
+    /// 6: the upper set has a unit that the sheet has not. [`Place::Step`].
+    UpperSet = 6,
+    /// 7: no set of units is feasible in the step. [`Place::Step`].
+    NoSet = 7,
+    /// 8: an output has fewer places than there are steps. [`Place::Count`]: the steps.
+    ShortOutput = 8,
+    /// 9: the bound is below the fewest warm-ups of any feasible plan. [`Place::Count`]: those warm-ups.
+    Bound = 9,
+    /// 10: the plan has more or fewer words than there are steps. [`Place::Count`]: the steps.
+    PlanLength = 10,
+}
+
+impl Refusal {
+    /// All causes, in the order in which they are checked. The first has the number 1, the next one 2, and so on.
+    pub const ALL: &'static [Refusal] = &[
+        Refusal::Length,
+        Refusal::Form,
+        Refusal::Header,
+        Refusal::RecordNumber,
+        Refusal::Loop,
+        Refusal::UpperSet,
+        Refusal::NoSet,
+        Refusal::ShortOutput,
+        Refusal::Bound,
+        Refusal::PlanLength,
+    ];
+
+    /// The number of the cause.
+    #[must_use]
+    pub const fn number(self) -> u32 {
+        self as u32
+    }
+
+    /// The place that goes with this cause, from its number.
+    #[must_use]
+    pub const fn place(self, number: u32) -> Place {
+        match self {
+            Refusal::Length => Place::Whole,
+            Refusal::Form | Refusal::Header => Place::Byte(number),
+            Refusal::RecordNumber | Refusal::Loop => Place::Record(number),
+            Refusal::UpperSet | Refusal::NoSet => Place::Step(number),
+            Refusal::ShortOutput | Refusal::Bound | Refusal::PlanLength => Place::Count(number),
+        }
+    }
+}
+
+impl TryFrom<u32> for Refusal {
+    type Error = UnknownRefusal;
+
+    fn try_from(number: u32) -> Result<Refusal, UnknownRefusal> {
+        Refusal::ALL.iter().copied().find(|refusal| refusal.number() == number).ok_or(UnknownRefusal(number))
+    }
+}
+
+/// A number that is that of no [`Refusal`].
+#[derive(Clone, Copy, Debug, PartialEq, Eq, Hash)]
+pub struct UnknownRefusal(pub u32);
+
+impl fmt::Display for UnknownRefusal {
+    fn fmt(&self, out: &mut fmt::Formatter<'_>) -> fmt::Result {
+        write!(out, "there is no refusal {}", self.0)
+    }
+}
+
+impl core::error::Error for UnknownRefusal {}
+
+/// Where in the sheet the cause of a refusal is, or how many there are of what it names.
+#[derive(Clone, Copy, Debug, PartialEq, Eq, Hash)]
+#[non_exhaustive]
+pub enum Place {
+    /// No place in particular: its number is 0.
+    Whole,
+    /// A byte of the sheet, from 0.
+    Byte(u32),
+    /// A record, from 1, or 0 for the header.
+    Record(u32),
+    /// A step, from 1.
+    Step(u32),
+    /// How many: the last thing that the cause in words names.
+    Count(u32),
+}
+
+impl Place {
+    /// The place as a plain number.
+    #[must_use]
+    pub const fn number(self) -> u32 {
+        match self {
+            Place::Whole => 0,
+            Place::Byte(number) | Place::Record(number) | Place::Step(number) | Place::Count(number) => number,
+        }
+    }
+}
+
+/// Why a call gives no full reply. As text it is one line, such as `refused 5 at record 4: the next record is already on the chain`.
+#[derive(Clone, Copy, Debug, PartialEq, Eq, Hash)]
+#[non_exhaustive]
+pub enum Error {
+    /// The library refuses the sheet, an output or a plan.
+    Refused {
+        /// The first cause that holds.
+        refusal: Refusal,
+        /// Where, or how many.
+        place: Place,
+    },
+    /// The library gives a number that this crate does not know: it is of another version than this crate.
+    Unknown {
+        /// The number of the refusal.
+        number: u32,
+        /// The number of its place.
+        place: u32,
+    },
+}
+
+impl Error {
+    /// The refusal that the library gives, by its number and that of its place.
+    pub(crate) fn new(number: u32, place: u32) -> Error {
+        match Refusal::try_from(number) {
+            Ok(refusal) => Error::Refused { refusal, place: refusal.place(place) },
+            Err(UnknownRefusal(number)) => Error::Unknown { number, place },
+        }
+    }
+
+    /// The number of the refusal, as the library gives it.
+    #[must_use]
+    pub const fn number(self) -> u32 {
+        match self {
+            Error::Refused { refusal, .. } => refusal.number(),
+            Error::Unknown { number, .. } => number,
+        }
+    }
+
+    /// The number of the place, as the library gives it.
+    #[must_use]
+    pub const fn place(self) -> u32 {
+        match self {
+            Error::Refused { place, .. } => place.number(),
+            Error::Unknown { place, .. } => place,
+        }
+    }
+
+    /// The cause in words.
+    #[must_use]
+    pub const fn cause(self) -> &'static str {
+        let Error::Refused { refusal, place } = self else { return UNKNOWN };
+        match (refusal, place.number()) {
+            (Refusal::Length, _) => "the sheet is shorter than 24 or longer than 6,168 bytes",
+            (Refusal::Form, 0) => "the letters are not WARM",
+            (Refusal::Form, 4) => "the edition is not 1",
+            (Refusal::Header, 5) => "the number of units is not 1 to 64",
+            (Refusal::Header, 6) => "there are more than 256 records",
+            (Refusal::Header, 12) => "bytes 12 to 15 are not zero",
+            (Refusal::Header, 16) => "the start set has a unit that the sheet has not",
+            (Refusal::Header, 24) => "the length is not that of the header and the records",
+            (Refusal::RecordNumber, _) => "the number of the first or the next record is above the number of records",
+            (Refusal::Loop, _) => "the next record is already on the chain",
+            (Refusal::UpperSet, _) => "the upper set has a unit that the sheet has not",
+            (Refusal::NoSet, _) => "no set of units is feasible in the step",
+            (Refusal::ShortOutput, _) => "an output has fewer places than there are steps",
+            (Refusal::Bound, _) => "the bound is below the fewest warm-ups of any feasible plan",
+            (Refusal::PlanLength, _) => "the plan has more or fewer words than there are steps",
+            (Refusal::Form | Refusal::Header, _) => UNKNOWN,
+        }
+    }
+}
+
+/// In place of a cause.
+const UNKNOWN: &str = "a refusal that this version of the crate does not know";
+
+impl fmt::Display for Error {
+    fn fmt(&self, out: &mut fmt::Formatter<'_>) -> fmt::Result {
+        write!(out, "refused {}", self.number())?;
+        let cause = self.cause();
+        match *self {
+            Error::Refused { place: Place::Whole, .. } => write!(out, ": {cause}"),
+            Error::Refused { place: Place::Byte(number), .. } => write!(out, " at byte {number}: {cause}"),
+            Error::Refused { place: Place::Record(0), .. } => write!(out, " at the header: {cause}"),
+            Error::Refused { place: Place::Record(number), .. } => write!(out, " at record {number}: {cause}"),
+            Error::Refused { place: Place::Step(number), .. } => write!(out, " at step {number}: {cause}"),
+            Error::Refused { place: Place::Count(number), .. } => write!(out, ": {cause} ({number})"),
+            Error::Unknown { place, .. } => write!(out, " with place {place}: {cause}"),
+        }
+    }
+}
+
+impl core::error::Error for Error {}
+
+#[cfg(test)]
+mod tests {
+    use super::{Error, Place, Refusal, UnknownRefusal};
+    use std::string::ToString;
+
+    /// What a library of another version gives is an error value.
+    #[test]
+    fn of_another_version() {
+        let unknown = Error::new(99, 7);
+        assert_eq!(unknown, Error::Unknown { number: 99, place: 7 });
+        assert_eq!((unknown.number(), unknown.place()), (99, 7));
+        let line = "refused 99 with place 7: a refusal that this version of the crate does not know";
+        assert_eq!(unknown.to_string(), line);
+
+        let moved = Error::new(3, 99);
+        assert_eq!(moved, Error::Refused { refusal: Refusal::Header, place: Place::Byte(99) });
+        assert_eq!(moved.to_string(), "refused 3 at byte 99: a refusal that this version of the crate does not know");
+    }
+
+    #[test]
+    fn each_number() {
+        for number in 0..100 {
+            match Refusal::try_from(number) {
+                Ok(refusal) => assert_eq!(refusal.number(), number),
+                Err(unknown) => {
+                    assert_eq!(unknown, UnknownRefusal(number));
+                    assert!(number == 0 || number > Refusal::ALL.len() as u32);
+                }
+            }
+        }
+    }
+}

@@ -1,0 +1,44 @@
+//! The entries with outputs of their own give what those with lent outputs give, and no refusal 8.
+
+mod common;
+mod reference;
+
+use common::random::Random;
+use common::sheets::{draw, Family};
+use reference::reading::read;
+use warm::{chart, chart_vec, plan, plan_vec, step_count, steps, steps_vec, Step, STEPS};
+
+fn compare(sheet: &[u8]) -> bool {
+    let mut list = [Step::default(); STEPS];
+    let [mut sets, mut on, mut off] = [[0; STEPS]; 3];
+    let lent = steps(sheet, &mut list).map(|said| (said.units, said.bound, said.start, said.steps.to_vec()));
+    assert_eq!(steps_vec(sheet).map(|said| (said.units, said.bound, said.start, said.steps)), lent);
+    let lent = plan(sheet, &mut sets).map(|plan| (plan.total, plan.sets.to_vec()));
+    assert_eq!(plan_vec(sheet).map(|plan| (plan.total, plan.sets)), lent);
+    let planned = lent.is_ok();
+    let lent = chart(sheet, &mut on, &mut off).map(|chart| (chart.total, chart.on.to_vec(), chart.off.to_vec()));
+    assert_eq!(chart_vec(sheet).map(|chart| (chart.total, chart.on, chart.off)), lent);
+
+    let count = step_count(sheet).map_err(|error| (error.number(), error.place()));
+    assert_eq!(count, read(sheet).map(|sheet| sheet.steps.len()));
+    planned
+}
+
+#[test]
+fn drawn() {
+    let mut random = Random::new(61);
+    let mut planned = 0;
+    for round in 0..2000 {
+        let family = Family::ALL[round % Family::ALL.len()];
+        let (units, steps) = (random.between(1, 64), random.below(if round % 50 == 0 { 257 } else { 12 }));
+        let mut campaign = draw(family, units, steps, &mut random);
+        campaign.bound = random.below(200) as u16;
+        let mut sheet = campaign.scattered(random.below(3).min(256 - steps), &mut random);
+        if round % 4 == 0 {
+            let at = random.below(sheet.len());
+            sheet[at] ^= 1 << random.below(8);
+        }
+        planned += usize::from(compare(&sheet));
+    }
+    assert!((500..1900).contains(&planned), "{planned} plans of 2000");
+}
