@@ -1,6 +1,6 @@
 /*
  * Prints the plan of the campaign sheet on standard input, and in each step the units that could be the other way round within the bound. A sheet
- * that is refused gets one line with the cause, on standard error, and status 1; an input that cannot be read gets status 2.
+ * that is refused gets one line with the cause, on standard error, and status 1; a wrong call or an input that cannot be read gets status 2.
  *
  *     rt staticlib warm
  *     mkdir -p target/c
@@ -50,12 +50,16 @@ static int refused(uint32_t number, uint32_t place)
     return 1;
 }
 
-int main(void)
+int main(int argc, char **argv)
 {
     /* one byte more than the longest sheet, so that a longer input is seen to be too long */
     static uint8_t sheet[WARM_BYTES + 1];
     static warm_step steps[WARM_STEPS];
     static uint64_t sets[WARM_STEPS], on[WARM_STEPS], off[WARM_STEPS];
+    if (argc != 1) {
+        fprintf(stderr, "usage: %s <SHEET\n", argv[0]);
+        return 2;
+    }
     size_t length = fread(sheet, 1, sizeof sheet, stdin);
     if (ferror(stdin)) {
         perror("standard input");

@@ -142,21 +142,12 @@ impl Error {
         }
     }
 
-    /// The number of the refusal, as the library gives it.
+    /// The number of the refusal and that of its place, as the library gives them.
     #[must_use]
-    pub const fn number(self) -> u32 {
+    pub const fn numbers(self) -> (u32, u32) {
         match self {
-            Error::Refused { refusal, .. } => refusal.number(),
-            Error::Unknown { number, .. } => number,
-        }
-    }
-
-    /// The number of the place, as the library gives it.
-    #[must_use]
-    pub const fn place(self) -> u32 {
-        match self {
-            Error::Refused { place, .. } => place.number(),
-            Error::Unknown { place, .. } => place,
+            Error::Refused { refusal, place } => (refusal.number(), place.number()),
+            Error::Unknown { number, place } => (number, place),
         }
     }
 
@@ -190,7 +181,7 @@ const UNKNOWN: &str = "a refusal that this version of the crate does not know";
 
 impl fmt::Display for Error {
     fn fmt(&self, out: &mut fmt::Formatter<'_>) -> fmt::Result {
-        write!(out, "refused {}", self.number())?;
+        write!(out, "refused {}", self.numbers().0)?;
         let cause = self.cause();
         match *self {
             Error::Refused { place: Place::Whole, .. } => write!(out, ": {cause}"),
@@ -216,7 +207,7 @@ mod tests {
     fn of_another_version() {
         let unknown = Error::new(99, 7);
         assert_eq!(unknown, Error::Unknown { number: 99, place: 7 });
-        assert_eq!((unknown.number(), unknown.place()), (99, 7));
+        assert_eq!(unknown.numbers(), (99, 7));
         let line = "refused 99 with place 7: a refusal that this version of the crate does not know";
         assert_eq!(unknown.to_string(), line);
 

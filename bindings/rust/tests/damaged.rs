@@ -272,7 +272,7 @@ fn twins() {
         assert_eq!(found, answers(&other), "for the sheets {} and {}", hex(&bytes), hex(&other));
         match found.plan {
             Ok(_) => tally.add("plans", 1),
-            Err(error) => tally.add_refusal(error.number()),
+            Err(error) => tally.add_refusal(error.numbers().0),
         }
     }
     tally.print("twins");

@@ -49,7 +49,7 @@ fn lines() {
         let place = refusal.place(number);
         let error = Error::Refused { refusal, place };
         assert_eq!(error.to_string(), line);
-        assert_eq!((error.number(), error.place(), place.number()), (refusal.number(), number, number));
+        assert_eq!(error.numbers(), (refusal.number(), number));
     }
     let met: HashSet<Refusal> = lines.iter().map(|line| line.0).collect();
     assert_eq!(met.len(), Refusal::ALL.len(), "a line for each refusal");

@@ -6,7 +6,7 @@ mod reference;
 use common::random::Random;
 use common::sheets::{draw, Family};
 use reference::reading::read;
-use warm::{chart, chart_vec, plan, plan_vec, step_count, steps, steps_vec, Step, STEPS};
+use warm::{chart, chart_vec, plan, plan_vec, step_count, steps, steps_vec, Error, Step, STEPS};
 
 fn compare(sheet: &[u8]) -> bool {
     let mut list = [Step::default(); STEPS];
@@ -19,7 +19,7 @@ fn compare(sheet: &[u8]) -> bool {
     let lent = chart(sheet, &mut on, &mut off).map(|chart| (chart.total, chart.on.to_vec(), chart.off.to_vec()));
     assert_eq!(chart_vec(sheet).map(|chart| (chart.total, chart.on, chart.off)), lent);
 
-    let count = step_count(sheet).map_err(|error| (error.number(), error.place()));
+    let count = step_count(sheet).map_err(Error::numbers);
     assert_eq!(count, read(sheet).map(|sheet| sheet.steps.len()));
     planned
 }

@@ -152,7 +152,7 @@ impl Judge {
     }
 
     fn compare<T: Debug + PartialEq>(&mut self, call: &str, sheet: &[u8], got: Result<T, Error>, want: &Reply<T>) {
-        let got = got.map_err(|error| (error.number(), error.place()));
+        let got = got.map_err(Error::numbers);
         assert_eq!(&got, want, "{call}: the reply, for the sheet {}", hex(sheet));
         self.tally.add("calls", 1);
         if let Err((number, _)) = want {
