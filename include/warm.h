@@ -40,8 +40,8 @@
  *   9        the bound is below the fewest warm-ups of any feasible plan                count of those warm-ups
  *   10       the plan has more or fewer words than there are steps                      count of the steps
  *
- * The first cause in this order is the one that is given: of 4 and 5 that of the earlier link, and of 6 and 7 that of the earlier step. warm_steps
- * gives 1 to 8, warm_plan and warm_chart give 1 to 9, and warm_verdict gives 1 to 7 and 10.
+ * The first cause in this order is the one that is given: of 4 and 5 that of the earlier link, and of 6 and 7 that of the earlier step. Below, each
+ * entry says which it gives.
  *
  * To learn the number of steps n, call warm_steps with no list (NULL and 0): it gives refusal 8 with n as its place, or a full reply if n is 0.
  *
@@ -52,7 +52,7 @@
  *
  * Stack: the WARM_STACK_ numbers below are the most that a call takes, with all that it calls in the archive. They leave out what memcpy and memset
  * take. In a program that binds functions at their first call (-z lazy, the default of many compilers), they also leave out the dynamic linker,
- * which runs on the caller's stack where a call is the first to need memcpy or memset: with glibc 2.36, warm_verdict then went 11,496 bytes deep.
+ * which runs on the caller's stack where a call is the first to need memcpy or memset: with glibc 2.36, warm_verdict then went more than 11,000 bytes deep.
  * Link with -z now (cc -Wl,-z,now) or statically to be sure. Frames above a page are probed page by page, from the top, so that a guard page below
  * the stack is met and not jumped over.
  */
@@ -112,7 +112,7 @@ typedef enum {
     WARM_PLACE_BYTE,   /* a byte of the sheet, from 0 */
     WARM_PLACE_RECORD, /* a record, from 1, or 0 for the header */
     WARM_PLACE_STEP,   /* a step, from 1 */
-    WARM_PLACE_COUNT   /* how many: the last thing that the cause in words names */
+    WARM_PLACE_COUNT   /* a count, of what the table says */
 } warm_place;
 
 /* One step: unit u has weight 2^u in a set. Of the padding nothing is said. */
@@ -125,7 +125,7 @@ typedef struct {
 } warm_step;
 
 typedef struct {
-    uint32_t refusal; /* 0, or 1 to 8 */
+    uint32_t refusal;
     uint32_t place;
     uint32_t units;
     uint32_t steps;
@@ -136,12 +136,12 @@ typedef struct {
 
 /*
  * The steps of a sheet, into the first places of a list. Places after them are left as they are. A list of WARM_STEPS places is always enough.
- * Takes two walks along the chain of records, and one more to fill the list.
+ * Takes two walks along the chain of records, and one more to fill the list. Refusals: 1 to 8.
  */
 WARM_CHECKED warm_steps_reply warm_steps(const uint8_t *sheet, size_t sheet_len, warm_step *steps, size_t steps_len) WARM_NOEXCEPT;
 
 typedef struct {
-    uint32_t refusal;  /* 0, or 1 to 10 */
+    uint32_t refusal;
     uint32_t place;
     uint32_t total;    /* the warm-ups of the plan that is handed out, charted or judged */
     uint32_t accepted; /* the verdict: 1 for yes, 0 for no; 0 from the other entries */
@@ -152,7 +152,7 @@ typedef struct {
  * the whole output on a refusal. An output of WARM_STEPS places is always enough. Where several plans have as few warm-ups, FindSupport's is handed
  * out (docs/FORMAT.md), always the same.
  * Takes three walks along the chain, one pass over the steps, and for each step at most 31 looks at single steps and one at each block of sixteen
- * steps from it on: 32 * n + n * n / 32 looks at the most, for n steps.
+ * steps from it on: 32 * n + n * n / 32 looks at the most, for n steps. Refusals: 1 to 9.
  */
 WARM_CHECKED warm_reply warm_plan(const uint8_t *sheet, size_t sheet_len, uint64_t *plan, size_t plan_len) WARM_NOEXCEPT;
 
@@ -161,6 +161,7 @@ WARM_CHECKED warm_reply warm_plan(const uint8_t *sheet, size_t sheet_len, uint64
  * places of two outputs, one word for each step. A unit can be in both words; one that the sheet has not is in neither. Places after them are left
  * as they are, and so are both outputs on a refusal. Outputs of WARM_STEPS places are always enough. The total is that of warm_plan.
  * Takes the time of a plan, and beyond that a time linear in n * d, for n steps and d units: in all less than a millisecond for the largest sheets.
+ * Refusals: 1 to 9.
  */
 WARM_CHECKED warm_reply warm_chart(
     const uint8_t *sheet, size_t sheet_len, uint64_t *on, size_t on_len, uint64_t *off, size_t off_len) WARM_NOEXCEPT;
@@ -168,7 +169,7 @@ WARM_CHECKED warm_reply warm_chart(
 /*
  * Whether a plan that was made elsewhere is feasible and has a total of at most the bound, and that total, feasible or not. In the total, units
  * that the sheet has not count like any other. Writes to no lent memory.
- * Takes three walks along the chain, and one through the plan.
+ * Takes three walks along the chain, and one through the plan. Refusals: 1 to 7 and 10.
  */
 WARM_CHECKED warm_reply warm_verdict(const uint8_t *sheet, size_t sheet_len, const uint64_t *plan, size_t plan_len) WARM_NOEXCEPT;
 
@@ -184,6 +185,8 @@ static inline const char *warm_cause(uint32_t refusal, uint32_t place)
             return "the letters are not WARM";
         case 4:
             return "the edition is not 1";
+        default:
+            break;
         }
         break;
     case WARM_REFUSAL_HEADER:
@@ -198,6 +201,8 @@ static inline const char *warm_cause(uint32_t refusal, uint32_t place)
             return "the start set has a unit that the sheet has not";
         case 24:
             return "the length is not that of the header and the records";
+        default:
+            break;
         }
         break;
     case WARM_REFUSAL_RECORD_NUMBER:
@@ -214,6 +219,8 @@ static inline const char *warm_cause(uint32_t refusal, uint32_t place)
         return "the bound is below the fewest warm-ups of any feasible plan";
     case WARM_REFUSAL_PLAN_LENGTH:
         return "the plan has more or fewer words than there are steps";
+    default:
+        break;
     }
     return "a refusal that this version of warm.h does not know";
 }
@@ -235,6 +242,8 @@ static inline warm_place warm_place_of(uint32_t refusal)
     case WARM_REFUSAL_BOUND:
     case WARM_REFUSAL_PLAN_LENGTH:
         return WARM_PLACE_COUNT;
+    default:
+        break;
     }
     return WARM_PLACE_WHOLE;
 }

@@ -2,7 +2,7 @@
  * How deep a call of each entry goes on the stack, for the sheet on standard input. Each call runs in a process of its own, in which it is the
  * first that needs memcpy or memset, on a stack that was painted before. The bytes count from the stack pointer before the call, so the return
  * address is among them. Linked with -z lazy, the dynamic linker binds memcpy and memset in that call, and its own frames count too. Prints each
- * depth beside the limit of include/warm.h, and ends with status 1 if one is above it.
+ * depth beside the limit of include/warm.h. Ends with status 1 if one is above it, and with 2 if a call gives no full reply.
  */
 #define _DEFAULT_SOURCE
 #include "warm.h"
@@ -18,10 +18,12 @@ static warm_step steps[WARM_STEPS];
 static warm_steps_reply summary;
 static uint64_t sets[WARM_STEPS], on[WARM_STEPS], off[WARM_STEPS];
 static volatile uint8_t region[SIZE] __attribute__((aligned(16)));
+static uint64_t first_word;
 
 typedef void any_function(void);
 
-/* Calls a function with six words on the painted stack: the bytes of it that changed, from the top down to the lowest. */
+/* Calls a function with six words on the painted stack: the bytes of it that changed, from the top down to the lowest. Keeps what it returns in
+   its first register. */
 static size_t depth_of(any_function *entry, const uintptr_t *words)
 {
     uintptr_t rdi = words[0], rsi = words[1], rdx = words[2], rcx = words[3], rax;
@@ -39,36 +41,45 @@ static size_t depth_of(any_function *entry, const uintptr_t *words)
                      : "r"(called)
                      : "r10", "r11", "cc", "memory", "xmm0", "xmm1", "xmm2", "xmm3", "xmm4", "xmm5", "xmm6", "xmm7", "xmm8", "xmm9", "xmm10",
                      "xmm11", "xmm12", "xmm13", "xmm14", "xmm15");
+    first_word = rax;
     while (untouched < SIZE && region[untouched] == PAINT)
         untouched++;
     return SIZE - untouched;
 }
 
-/* Whether the call went no deeper than the limit: it is made, measured and printed in a process of its own. */
-static int within(const char *name, any_function *entry, size_t limit, const uintptr_t *words)
+/* Makes, measures and prints a call in a process of its own: 0, or 1 if it goes deeper than the limit, or 2 if it gives no full reply. */
+static int measure(const char *name, any_function *entry, size_t limit, const uintptr_t *words)
 {
-    int status = 1;
+    int status = 0;
     pid_t child = fork();
     if (child == 0) {
         size_t depth = depth_of(entry, words);
+        /* a reply of up to 16 bytes comes in registers, the refusal in the lower half of the first; a larger one at a place that was handed in */
+        uint32_t refusal = words[0] == (uintptr_t)&summary ? summary.refusal : (uint32_t)first_word;
         printf("%s: %zu bytes of stack, limit %zu\n", name, depth, limit);
         fflush(stdout);
-        _exit(depth > limit);
+        _exit(refusal != 0 ? 2 : depth > limit);
     }
-    return child > 0 && waitpid(child, &status, 0) == child && status == 0;
+    if (child < 0 || waitpid(child, &status, 0) != child || !WIFEXITED(status))
+        return 2;
+    return WEXITSTATUS(status);
 }
 
 int main(void)
 {
-    /* a reply of more than 16 bytes goes to a place that is handed in first */
     ssize_t got = read(STDIN_FILENO, sheet, sizeof sheet);
     uintptr_t length = got < 0 ? 0 : (uintptr_t)got;
     const uintptr_t for_steps[] = { (uintptr_t)&summary, (uintptr_t)sheet, length, (uintptr_t)steps, WARM_STEPS, 0 };
     const uintptr_t for_plan[] = { (uintptr_t)sheet, length, (uintptr_t)sets, WARM_STEPS, 0, 0 };
     const uintptr_t for_chart[] = { (uintptr_t)sheet, length, (uintptr_t)on, WARM_STEPS, (uintptr_t)off, WARM_STEPS };
-    int all = within("warm_steps", (any_function *)warm_steps, WARM_STACK_STEPS, for_steps);
-    all &= within("warm_plan", (any_function *)warm_plan, WARM_STACK_PLAN, for_plan);
-    all &= within("warm_chart", (any_function *)warm_chart, WARM_STACK_CHART, for_chart);
-    all &= within("warm_verdict", (any_function *)warm_verdict, WARM_STACK_VERDICT, for_plan);
-    return !all;
+    const int found[] = {
+        measure("warm_steps", (any_function *)warm_steps, WARM_STACK_STEPS, for_steps),
+        measure("warm_plan", (any_function *)warm_plan, WARM_STACK_PLAN, for_plan),
+        measure("warm_chart", (any_function *)warm_chart, WARM_STACK_CHART, for_chart),
+        measure("warm_verdict", (any_function *)warm_verdict, WARM_STACK_VERDICT, for_plan),
+    };
+    int worst = 0;
+    for (size_t i = 0; i < 4; i++)
+        worst = found[i] > worst ? found[i] : worst;
+    return worst;
 }

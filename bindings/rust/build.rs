@@ -32,6 +32,7 @@ fn check_target() {
 
 fn library_folder() -> PathBuf {
     let root = PathBuf::from(env::var_os("CARGO_MANIFEST_DIR").unwrap()).join("../..");
-    let folder = root.join(env::var_os("WARM_LIB_DIR").unwrap_or_else(|| "target/staticlib".into()));
+    let named = env::var_os("WARM_LIB_DIR").filter(|folder| !folder.is_empty());
+    let folder = root.join(named.unwrap_or_else(|| "target/staticlib".into()));
     folder.canonicalize().unwrap_or(folder)
 }

@@ -55,8 +55,8 @@
 //! `steps_vec`, `plan_vec` and `chart_vec` need no output, and give what they fill in a `Vec`.
 //!
 //! No call but those three allocates, and none blocks, prints or keeps state, so threads may call at will. A call takes less than a
-//! millisecond on the largest sheets. It needs at most 32,768 bytes of stack; all but [`chart`] need at most 11,264. What these limits leave
-//! out, the C header says under Stack.
+//! millisecond on the largest sheets. The library needs at most 32,768 bytes of stack for a chart, and at most 11,264 for all else; what these
+//! limits leave out, the C header says under Stack.
 //!
 //! # Linking
 //!
@@ -195,7 +195,7 @@ pub struct Verdict {
 ///
 /// # Errors
 ///
-/// Refusals 1 to 8, in the order of [`Refusal`]; the list is then as it was.
+/// Refusals 1 to 8; the list is then as it was.
 pub fn steps<'a>(sheet: &[u8], list: &'a mut [Step]) -> Result<Campaign<&'a [Step]>, Error> {
     // SAFETY: each pointer and length is that of a live slice, the one that is written to is lent for writing, and the library keeps
     // neither. Whatever it writes to a place is a valid `Step`.
@@ -213,7 +213,7 @@ pub fn steps<'a>(sheet: &[u8], list: &'a mut [Step]) -> Result<Campaign<&'a [Ste
 ///
 /// # Errors
 ///
-/// Refusals 1 to 7, in the order of [`Refusal`].
+/// Refusals 1 to 7.
 pub fn step_count(sheet: &[u8]) -> Result<usize, Error> {
     match steps(sheet, &mut []) {
         Ok(_) => Ok(0),
@@ -233,7 +233,7 @@ pub fn step_count(sheet: &[u8]) -> Result<usize, Error> {
 /// assert_eq!(plan.total, 3);
 ///
 /// let mut sheet = warm::FOUR_RUNS;
-/// sheet[10] = 2; // Three warm-ups are the fewest, and the bound is now 2.
+/// sheet[10] = 2; // The bound. Three warm-ups are the fewest.
 /// let refused = warm::plan(&sheet, &mut sets).unwrap_err();
 /// assert_eq!(refused, warm::Error::Refused { refusal: warm::Refusal::Bound, place: warm::Place::Count(3) });
 /// assert_eq!(refused.to_string(), "refused 9: the bound is below the fewest warm-ups of any feasible plan (3)");
@@ -242,7 +242,7 @@ pub fn step_count(sheet: &[u8]) -> Result<usize, Error> {
 ///
 /// # Errors
 ///
-/// Refusals 1 to 9, in the order of [`Refusal`]; the output is then as it was.
+/// Refusals 1 to 9; the output is then as it was.
 pub fn plan<'a>(sheet: &[u8], output: &'a mut [u64]) -> Result<Plan<&'a [u64]>, Error> {
     // SAFETY: each pointer and length is that of a live slice, the one that is written to is lent for writing, and the library keeps
     // neither.
@@ -268,7 +268,7 @@ pub fn plan<'a>(sheet: &[u8], output: &'a mut [u64]) -> Result<Plan<&'a [u64]>, 
 ///
 /// # Errors
 ///
-/// Refusals 1 to 9, in the order of [`Refusal`]; both outputs are then as they were.
+/// Refusals 1 to 9; both outputs are then as they were.
 pub fn chart<'a>(sheet: &[u8], on: &'a mut [u64], off: &'a mut [u64]) -> Result<Chart<&'a [u64]>, Error> {
     // SAFETY: each pointer and length is that of a live slice, the two that are written to are lent for writing and cannot overlap, and the
     // library keeps none.
@@ -292,7 +292,7 @@ pub fn chart<'a>(sheet: &[u8], on: &'a mut [u64], off: &'a mut [u64]) -> Result<
 ///
 /// # Errors
 ///
-/// Refusals 1 to 7 and 10, in the order of [`Refusal`].
+/// Refusals 1 to 7 and 10.
 pub fn verdict(sheet: &[u8], plan: &[u64]) -> Result<Verdict, Error> {
     // SAFETY: each pointer and length is that of a live slice; the library writes to neither and keeps neither.
     let reply = unsafe { ffi::warm_verdict(sheet.as_ptr(), sheet.len(), plan.as_ptr(), plan.len()) };

@@ -8,7 +8,7 @@ use alloc::vec::Vec;
 ///
 /// # Errors
 ///
-/// Refusals 1 to 7, in the order of [`Refusal`](crate::Refusal).
+/// Refusals 1 to 7.
 pub fn steps_vec(sheet: &[u8]) -> Result<Campaign<Vec<Step>>, Error> {
     let mut list = vec![Step::default(); step_count(sheet)?];
     let Campaign { units, bound, start, .. } = steps(sheet, &mut list)?;
@@ -25,7 +25,7 @@ pub fn steps_vec(sheet: &[u8]) -> Result<Campaign<Vec<Step>>, Error> {
 ///
 /// # Errors
 ///
-/// Refusals 1 to 7 and 9, in the order of [`Refusal`](crate::Refusal).
+/// Refusals 1 to 7 and 9.
 pub fn plan_vec(sheet: &[u8]) -> Result<Plan<Vec<u64>>, Error> {
     let mut sets = vec![0; step_count(sheet)?];
     let total = plan(sheet, &mut sets)?.total;
@@ -36,7 +36,7 @@ pub fn plan_vec(sheet: &[u8]) -> Result<Plan<Vec<u64>>, Error> {
 ///
 /// # Errors
 ///
-/// Refusals 1 to 7 and 9, in the order of [`Refusal`](crate::Refusal).
+/// Refusals 1 to 7 and 9.
 pub fn chart_vec(sheet: &[u8]) -> Result<Chart<Vec<u64>>, Error> {
     let count = step_count(sheet)?;
     let (mut on, mut off) = (vec![0; count], vec![0; count]);

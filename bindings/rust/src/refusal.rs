@@ -2,18 +2,19 @@
 
 use core::fmt;
 
-/// The cause of a refusal. Causes are checked in this order, and the first that holds is given.
+/// The cause of a refusal. Causes are checked in this order, and the first that holds is given: of 4 and 5 that of the earlier link, and of 6
+/// and 7 that of the earlier step.
 #[derive(Clone, Copy, Debug, PartialEq, Eq, Hash)]
 #[repr(u32)]
 #[non_exhaustive]
 pub enum Refusal {
     /// 1: the sheet is shorter than 24 or longer than 6,168 bytes. [`Place::Whole`].
     Length = 1,
-    /// 2: the letters are not WARM, [`Place::Byte`] 0; or the edition is not 1, byte 4.
+    /// 2: the letters are not WARM, byte 0; or the edition is not 1, byte 4. [`Place::Byte`].
     Form = 2,
-    /// 3: the number of units is not 1 to 64, [`Place::Byte`] 5; or there are more than 256 records, byte 6; or bytes 12 to 15 are not
-    /// zero, byte 12; or the start set has a unit that the sheet has not, byte 16; or the length is not that of the header and the records,
-    /// byte 24.
+    /// 3: the number of units is not 1 to 64, byte 5; or there are more than 256 records, byte 6; or bytes 12 to 15 are not zero, byte 12; or
+    /// the start set has a unit that the sheet has not, byte 16; or the length is not that of the header and the records, byte 24.
+    /// [`Place::Byte`].
     Header = 3,
     /// 4: the number of the first or the next record is above the number of records. [`Place::Record`]: the one that holds it, 0 for the
     /// header.
@@ -33,7 +34,7 @@ pub enum Refusal {
 }
 
 impl Refusal {
-    /// All causes, in the order in which they are checked. The first has the number 1, the next one 2, and so on.
+    /// All causes, in order: the first has the number 1, the next one 2, and so on.
     pub const ALL: &'static [Refusal] = &[
         Refusal::Length,
         Refusal::Form,
@@ -98,7 +99,7 @@ pub enum Place {
     Record(u32),
     /// A step, from 1.
     Step(u32),
-    /// How many: the last thing that the cause in words names.
+    /// A count, of what each [`Refusal`] says.
     Count(u32),
 }
 
