@@ -52,9 +52,9 @@
  *
  * Stack: the WARM_STACK_ numbers below are the most that a call takes, with all that it calls in the archive. They leave out what memcpy and memset
  * take. In a program that binds functions at their first call (-z lazy, the default of many compilers), they also leave out the dynamic linker,
- * which runs on the caller's stack where a call is the first to need memcpy or memset: with glibc 2.36, warm_verdict then went more than 11,000 bytes deep.
- * Link with -z now (cc -Wl,-z,now) or statically to be sure. Frames above a page are probed page by page, from the top, so that a guard page below
- * the stack is met and not jumped over.
+ * which runs on the caller's stack where a call is the first to need memcpy or memset: with glibc 2.36, warm_verdict then went more than 11,000
+ * bytes deep. Link with -z now (cc -Wl,-z,now) or statically to be sure. Frames above a page are probed page by page, from the top, so that a
+ * guard page below the stack is met and not jumped over.
  */
 #ifndef WARM_H
 #define WARM_H
