@@ -51,8 +51,9 @@
 //! that holds, in the order of [`Refusal`], and its [`Place`]. A refusal leaves every output exactly as it was.
 //!
 //! A reply fills the first n places of each output, for n steps, and lends them back; it changes no place after them. An output of
-//! [`STEPS`] places is always enough; one that is too short is refused with the number that it takes. With the feature `alloc`,
-//! `steps_vec`, `plan_vec` and `chart_vec` need no output, and give what they fill in a `Vec`.
+//! [`STEPS`] places is always enough; one that is too short is refused with the number that it takes. [`plan`] and [`chart`] read n by a call
+//! of [`step_count`], which takes less time than a plan. With the feature `alloc`, `steps_vec`, `plan_vec` and `chart_vec` need no output, and
+//! give what they fill in a `Vec`.
 //!
 //! No call but those three allocates, and none blocks, prints or keeps state, so threads may call at will. A call takes less than a
 //! millisecond on the largest sheets. The library needs at most 32,768 bytes of stack for a chart, and at most 11,264 for all else; what these
