@@ -39,8 +39,12 @@ static int refused(uint32_t number, uint32_t place)
     case WARM_PLACE_STEP:
         fprintf(stderr, " at step %" PRIu32, place);
         break;
+    case WARM_PLACE_UNKNOWN:
+        fprintf(stderr, " with place %" PRIu32, place);
+        break;
     case WARM_PLACE_COUNT:
     case WARM_PLACE_WHOLE:
+    default:
         break;
     }
     fprintf(stderr, ": %s", warm_cause(number, place));

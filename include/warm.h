@@ -18,7 +18,8 @@
  *
  * A set is feasible in a step if it includes the lower set, lies within the upper set, and has a size from the least to the greatest number. A plan
  * has one word for each step: the set of units that are on. It is feasible if the set of every step is. Its warm-ups in a step are the units that
- * are on there and off in the step before; for the first step the start set is the step before. Its total is the sum over all steps.
+ * are on there and off in the step before; for the first step the start set is the step before. Its total is the sum over all steps. The fewest
+ * warm-ups are the least total of any feasible plan.
  *
  * A reply whose field `refusal` is 0 is a full reply. Otherwise `refusal` is a number of this table, `place` says where or how many, every other
  * field is 0, and every buffer that was lent is exactly as it came.
@@ -37,13 +38,14 @@
  *   6        the upper set has a unit that the sheet has not                            step, from 1
  *   7        no set of units is feasible in the step                                    step, from 1
  *   8        an output has fewer places than there are steps                            count of the steps
- *   9        the bound is below the fewest warm-ups of any feasible plan                count of those warm-ups
+ *   9        the bound is below the fewest warm-ups                                     count of those warm-ups
  *   10       the plan has more or fewer words than there are steps                      count of the steps
  *
  * The first cause in this order is the one that is given: of 4 and 5 that of the earlier link, and of 6 and 7 that of the earlier step. Below, each
  * entry says which it gives.
  *
- * To learn the number of steps n, call warm_steps with no list (NULL and 0): it gives refusal 8 with n as its place, or a full reply if n is 0.
+ * To learn the number of steps n, call warm_steps with no list (NULL and 0): it gives refusal 8 with n as its place, or a full reply if n is 0, or
+ * one of 1 to 7 if the sheet is refused.
  *
  * No call allocates, blocks, prints or keeps state: threads may call at will. Buffers are aligned for their type and do not overlap. A pointer
  * may be NULL where its length is 0. The archive is for x86-64 and the calling convention of Linux (System V), built for any such processor, and
@@ -78,7 +80,8 @@
 extern "C" {
 #endif
 
-/* Changes when a struct or an entry below changes. */
+/* Changes when a struct or an entry below changes. Such an entry then has another name too, so that a program that was compiled for the struct of
+   before does not link. What is only added does not count. */
 #define WARM_VERSION 1
 
 /* The most units, steps and bytes that a sheet can have. */
@@ -92,7 +95,7 @@ extern "C" {
 #define WARM_STACK_CHART 32768
 #define WARM_STACK_VERDICT 9216
 
-/* The numbers of the table above, by name. */
+/* The numbers of the table above, by name. Later versions add to them. */
 typedef enum {
     WARM_REFUSAL_LENGTH = 1,
     WARM_REFUSAL_FORM = 2,
@@ -106,13 +109,14 @@ typedef enum {
     WARM_REFUSAL_PLAN_LENGTH = 10
 } warm_refusal;
 
-/* What the place of a refusal is. */
+/* What the place of a refusal is. Later versions may add to these. */
 typedef enum {
-    WARM_PLACE_WHOLE,  /* no place in particular: the number is 0 */
-    WARM_PLACE_BYTE,   /* a byte of the sheet, from 0 */
-    WARM_PLACE_RECORD, /* a record, from 1, or 0 for the header */
-    WARM_PLACE_STEP,   /* a step, from 1 */
-    WARM_PLACE_COUNT   /* a count, of what the table says */
+    WARM_PLACE_UNKNOWN, /* of a number that is not in the table */
+    WARM_PLACE_WHOLE,   /* no place in particular: the number is 0 */
+    WARM_PLACE_BYTE,    /* a byte of the sheet, from 0 */
+    WARM_PLACE_RECORD,  /* a record, from 1, or 0 for the header */
+    WARM_PLACE_STEP,    /* a step, from 1 */
+    WARM_PLACE_COUNT    /* a count, of what the table says */
 } warm_place;
 
 /* One step: unit u has weight 2^u in a set. Of the padding nothing is said. */
@@ -216,7 +220,7 @@ static inline const char *warm_cause(uint32_t refusal, uint32_t place)
     case WARM_REFUSAL_SHORT_OUTPUT:
         return "an output has fewer places than there are steps";
     case WARM_REFUSAL_BOUND:
-        return "the bound is below the fewest warm-ups of any feasible plan";
+        return "the bound is below the fewest warm-ups";
     case WARM_REFUSAL_PLAN_LENGTH:
         return "the plan has more or fewer words than there are steps";
     default:
@@ -225,10 +229,12 @@ static inline const char *warm_cause(uint32_t refusal, uint32_t place)
     return "a refusal that this version of warm.h does not know";
 }
 
-/* What the place of a refusal is, by its number; WARM_PLACE_WHOLE if the table above has no such refusal. */
+/* What the place of a refusal is, by its number. */
 static inline warm_place warm_place_of(uint32_t refusal)
 {
     switch (refusal) {
+    case WARM_REFUSAL_LENGTH:
+        return WARM_PLACE_WHOLE;
     case WARM_REFUSAL_FORM:
     case WARM_REFUSAL_HEADER:
         return WARM_PLACE_BYTE;
@@ -245,7 +251,7 @@ static inline warm_place warm_place_of(uint32_t refusal)
     default:
         break;
     }
-    return WARM_PLACE_WHOLE;
+    return WARM_PLACE_UNKNOWN;
 }
 
 #ifdef __cplusplus

@@ -195,7 +195,7 @@ static void words(void)
         int known = number >= WARM_REFUSAL_LENGTH && number <= WARM_REFUSAL_PLAN_LENGTH;
         int by_byte = number == WARM_REFUSAL_FORM || number == WARM_REFUSAL_HEADER;
         must((strcmp(warm_cause(number, 99), unknown) == 0) == (!known || by_byte), "which causes are known");
-        must((warm_place_of(number) == WARM_PLACE_WHOLE) == (!known || number == WARM_REFUSAL_LENGTH), "which places are known");
+        must((warm_place_of(number) == WARM_PLACE_UNKNOWN) == !known, "which places are known");
     }
 }
 

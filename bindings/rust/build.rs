@@ -13,7 +13,7 @@ fn main() {
     assert!(
         archive.is_file(),
         "{} is not there: run `rt staticlib warm` in the repository, which writes target/staticlib/libwarm.a, \
-         or set WARM_LIB_DIR to the folder that has libwarm.a",
+         or set WARM_LIB_DIR to the folder that has libwarm.a (a relative one counts from the root of the repository)",
         archive.display()
     );
     println!("cargo:rustc-link-search=native={}", folder.display());

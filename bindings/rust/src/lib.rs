@@ -48,7 +48,7 @@
 //! # Replies, refusals and buffers
 //!
 //! Bytes need no check beforehand. A sheet that cannot be used, or an output that is too short, gets [`Error::Refused`]: the first cause
-//! that holds, in the order of [`Refusal`], and its [`Place`]. A refusal leaves every output exactly as it was.
+//! that holds, a [`Refusal`], and its [`Place`]. A refusal leaves every output exactly as it was.
 //!
 //! A reply fills the first n places of each output, for n steps, and lends them back; it changes no place after them. An output of
 //! [`STEPS`] places is always enough; one that is too short is refused with the number that it takes. [`plan`] and [`chart`] read n by a call
@@ -112,7 +112,7 @@ pub const FOUR_RUNS: [u8; 120] = *b"\
     \x04\0\0\0\0\0\0\0\x07\0\0\0\0\0\0\0\0\x02\x04\0\0\0\0\0\
     \x01\0\0\0\0\0\0\0\x07\0\0\0\0\0\0\0\0\x02\0\0\0\0\0\0";
 
-/// One step of a campaign. Unit `u` has weight 2^u in a set.
+/// One step of a campaign. Unit `u` has weight 2^u in a set. The default is no step of use: it fills lists that are lent.
 #[repr(C)]
 #[derive(Clone, Copy, Debug, Default, PartialEq, Eq, Hash)]
 #[non_exhaustive]
@@ -237,7 +237,7 @@ pub fn step_count(sheet: &[u8]) -> Result<usize, Error> {
 /// sheet[10] = 2; // The bound. Three warm-ups are the fewest.
 /// let refused = warm::plan(&sheet, &mut sets).unwrap_err();
 /// assert_eq!(refused, warm::Error::Refused { refusal: warm::Refusal::Bound, place: warm::Place::Count(3) });
-/// assert_eq!(refused.to_string(), "refused 9: the bound is below the fewest warm-ups of any feasible plan (3)");
+/// assert_eq!(refused.to_string(), "refused 9: the bound is below the fewest warm-ups (3)");
 /// # Ok::<(), warm::Error>(())
 /// ```
 ///

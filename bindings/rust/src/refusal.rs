@@ -2,8 +2,7 @@
 
 use core::fmt;
 
-/// The cause of a refusal. Causes are checked in this order, and the first that holds is given: of 4 and 5 that of the earlier link, and of 6
-/// and 7 that of the earlier step.
+/// The cause of a refusal: the first that holds. The repository's `docs/FORMAT.md` has the order in which causes are checked.
 #[derive(Clone, Copy, Debug, PartialEq, Eq, Hash)]
 #[repr(u32)]
 #[non_exhaustive]
@@ -27,14 +26,14 @@ pub enum Refusal {
     NoSet = 7,
     /// 8: an output has fewer places than there are steps. [`Place::Count`]: the steps.
     ShortOutput = 8,
-    /// 9: the bound is below the fewest warm-ups of any feasible plan. [`Place::Count`]: those warm-ups.
+    /// 9: the bound is below the fewest warm-ups. [`Place::Count`]: those warm-ups.
     Bound = 9,
     /// 10: the plan has more or fewer words than there are steps. [`Place::Count`]: the steps.
     PlanLength = 10,
 }
 
 impl Refusal {
-    /// All causes, in order: the first has the number 1, the next one 2, and so on.
+    /// All causes, by their numbers.
     pub const ALL: &'static [Refusal] = &[
         Refusal::Length,
         Refusal::Form,
@@ -170,7 +169,7 @@ impl Error {
             (Refusal::UpperSet, _) => "the upper set has a unit that the sheet has not",
             (Refusal::NoSet, _) => "no set of units is feasible in the step",
             (Refusal::ShortOutput, _) => "an output has fewer places than there are steps",
-            (Refusal::Bound, _) => "the bound is below the fewest warm-ups of any feasible plan",
+            (Refusal::Bound, _) => "the bound is below the fewest warm-ups",
             (Refusal::PlanLength, _) => "the plan has more or fewer words than there are steps",
             (Refusal::Form | Refusal::Header, _) => UNKNOWN,
         }
@@ -200,7 +199,7 @@ impl core::error::Error for Error {}
 
 #[cfg(test)]
 mod tests {
-    use super::{Error, Place, Refusal, UnknownRefusal};
+    use super::{Error, Place, Refusal};
     use std::string::ToString;
 
     /// What a library of another version gives is an error value.
@@ -215,18 +214,5 @@ mod tests {
         let moved = Error::new(3, 99);
         assert_eq!(moved, Error::Refused { refusal: Refusal::Header, place: Place::Byte(99) });
         assert_eq!(moved.to_string(), "refused 3 at byte 99: a refusal that this version of the crate does not know");
-    }
-
-    #[test]
-    fn each_number() {
-        for number in 0..100 {
-            match Refusal::try_from(number) {
-                Ok(refusal) => assert_eq!(refusal.number(), number),
-                Err(unknown) => {
-                    assert_eq!(unknown, UnknownRefusal(number));
-                    assert!(number == 0 || number > Refusal::ALL.len() as u32);
-                }
-            }
-        }
     }
 }

@@ -1,8 +1,7 @@
-//! What a refusal says of itself, the constants, and the layout of a step.
+//! What a refusal says of itself, and the constants.
 
 use std::collections::HashSet;
-use std::mem::{align_of, offset_of, size_of};
-use warm::{Error, Place, Refusal, Step, UnknownRefusal};
+use warm::{Error, Place, Refusal, UnknownRefusal};
 
 #[test]
 fn numbers_in_order() {
@@ -42,7 +41,7 @@ fn lines() {
         (Refusal::UpperSet, 1, "refused 6 at step 1: the upper set has a unit that the sheet has not"),
         (Refusal::NoSet, 256, "refused 7 at step 256: no set of units is feasible in the step"),
         (Refusal::ShortOutput, 4, "refused 8: an output has fewer places than there are steps (4)"),
-        (Refusal::Bound, 3, "refused 9: the bound is below the fewest warm-ups of any feasible plan (3)"),
+        (Refusal::Bound, 3, "refused 9: the bound is below the fewest warm-ups (3)"),
         (Refusal::PlanLength, 4, "refused 10: the plan has more or fewer words than there are steps (4)"),
     ];
     for (refusal, number, line) in lines {
@@ -81,12 +80,11 @@ fn is_an_error() {
 
 #[test]
 fn constants() {
-    assert_eq!((warm::UNITS, warm::STEPS, warm::BYTES, warm::VERSION), (64, 256, 6168, 1));
-}
-
-#[test]
-fn layout() {
-    assert_eq!((size_of::<Step>(), align_of::<Step>()), (24, 8));
-    assert_eq!((offset_of!(Step, lower), offset_of!(Step, upper)), (0, 8));
-    assert_eq!((offset_of!(Step, least), offset_of!(Step, greatest), offset_of!(Step, tag)), (16, 17, 20));
+    let header = include_str!("../../../include/warm.h");
+    let version = warm::VERSION as usize;
+    for (name, value) in [("UNITS", warm::UNITS), ("STEPS", warm::STEPS), ("BYTES", warm::BYTES), ("VERSION", version)]
+    {
+        assert!(header.contains(&format!("#define WARM_{name} {value}\n")), "{name}");
+    }
+    assert_eq!((warm::UNITS, warm::STEPS, warm::BYTES), (64, 256, 6168));
 }
