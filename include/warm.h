@@ -80,8 +80,8 @@
 extern "C" {
 #endif
 
-/* Changes when a struct or an entry below changes. Such an entry then has another name too, so that a program that was compiled for the struct of
-   before does not link. What is only added does not count. */
+/* Changes when a struct or an entry below changes. Such an entry then has another name too, so that a program compiled for the old struct does not
+   link. What is only added does not count. */
 #define WARM_VERSION 1
 
 /* The most units, steps and bytes that a sheet can have. */
