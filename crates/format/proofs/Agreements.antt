@@ -2,8 +2,8 @@
 -- leads out of the sheet or back, both get the same refusal, and else their steps differ in tags alone.
 use mathlib.Core.Path.{_≡_, refl, sym, ap, ap₂, _∙_}
 use mathlib.Core.List.{List, [], _∷_, _++_, map}
-use Prim.Native.Nat.{ℕ, zero, suc, _+_, _*_, _≤_, _<_, min}
-use native.Mathlib.Nat.{add-assoc, add-zero, zero-add}
+use Prim.Native.Nat.{ℕ, zero, suc, _+_, _≤_, _<_, min}
+use native.Mathlib.Nat.{add-zero, zero-add}
 use native.Mathlib.Decide.{ℕ-discrete}
 use native.Mathlib.Omega.{arith}
 use lib.ListN.{length-take, take}
@@ -14,33 +14,13 @@ use Rattle.format.specs.Agreement.{Visited, begun, onward, Agree, untagg
 use Rattle.format.specs.Answer.{Answer, Given, unless}
 use Rattle.format.specs.Chain.{following, chainOf, linkCauses}
 use Rattle.format.specs.Format.{headerSize, editionAt, unitsAt, recordsAt, firstAt, boundAt, reservedAt, startAt, upperAt, leastAt, greatestAt, nextAt, tagAt, recordOffset, lettersOf, unitsOf, recordsOf, boundOf, startOf, nextOf, stepOf}
-use Rattle.format.specs.Numbers.{byteAt, u16At, u32At, u64At}
+use Rattle.format.specs.Numbers.{byteAt, u64At}
 use Rattle.format.specs.Reading.{formCauses, headerCauses, stepCauses, stepsCauses, recordsOn, stepsOf, openCauses, Campaign, campaignOf}
 use Rattle.format.proofs.Answers.{past-first}
 use Rattle.format.proofs.Chains.{follow-ends, follow-on}
+use Rattle.format.proofs.Numbers.{same-u16, same-u32, same-u64}
 use Rattle.format.proofs.Readings.{open-staged, read-staged}
 use Rattle.format.proofs.Records.{next-first, next-after}
-
--- ---- numbers at equal bytes are equal
-
-module _ (s t : List ℕ) (base room : ℕ) (same : (i : ℕ) → i < room → byteAt s (base + i) ≡ byteAt t (base + i)) where
-  same-u16 : (i : ℕ) → i + 2 ≤ room → u16At s (base + i) ≡ u16At t (base + i)
-  unfolding u16At
-  same-u16 i h =
-      ap₂ (λ a b. a + 256 * b) (same i (omega arith))
-      (ap (byteAt s) (add-assoc base i 1) ∙ same (i + 1) (omega arith) ∙ ap (byteAt t) (sym (add-assoc base i 1)))
-
-  same-u32 : (i : ℕ) → i + 4 ≤ room → u32At s (base + i) ≡ u32At t (base + i)
-  unfolding u32At
-  same-u32 i h =
-      ap₂ (λ a b. a + 65536 * b) (same-u16 i (omega arith))
-      (ap (u16At s) (add-assoc base i 2) ∙ same-u16 (i + 2) (omega arith) ∙ ap (u16At t) (sym (add-assoc base i 2)))
-
-  same-u64 : (i : ℕ) → i + 8 ≤ room → u64At s (base + i) ≡ u64At t (base + i)
-  unfolding u64At
-  same-u64 i h =
-      ap₂ (λ a b. a + 4294967296 * b) (same-u32 i (omega arith))
-      (ap (u32At s) (add-assoc base i 4) ∙ same-u32 (i + 4) (omega arith) ∙ ap (u32At t) (sym (add-assoc base i 4)))
 
 -- ---- a record whose bytes before the tag are equal
 
@@ -50,8 +30,8 @@ module _ (s t : List ℕ) (j : ℕ) (same : (i : ℕ) → i < tagAt → byteAt s
   same-step =
       let at = recordOffset j in
       let lower : u64At s at ≡ u64At t at =
-      ap (u64At s) (sym (add-zero at)) ∙ same-u64 s t at tagAt same 0 (omega arith) ∙ ap (u64At t) (add-zero at) in
-      λ i. record { lower = lower i; upper = same-u64 s t at tagAt same upperAt (omega arith) i; least = same leastAt (omega arith) i; greatest = same greatestAt (omega arith) i; tag = 0 }
+      ap (u64At s) (sym (add-zero at)) ∙ same-u64 s t at at tagAt same 0 (omega arith) ∙ ap (u64At t) (add-zero at) in
+      λ i. record { lower = lower i; upper = same-u64 s t at at tagAt same upperAt (omega arith) i; least = same leastAt (omega arith) i; greatest = same greatestAt (omega arith) i; tag = 0 }
 
 -- ---- tags play no part in the causes
 
@@ -76,25 +56,25 @@ module _ (s t : List ℕ) (g : Agree s t) where
   same-units = g .headers unitsAt (omega arith)
 
   same-records : recordsOf s ≡ recordsOf t
-  same-records = same-u16 s t 0 headerSize heads recordsAt (omega arith)
+  same-records = same-u16 s t 0 0 headerSize heads recordsAt (omega arith)
 
   same-bound : boundOf s ≡ boundOf t
-  same-bound = same-u16 s t 0 headerSize heads boundAt (omega arith)
+  same-bound = same-u16 s t 0 0 headerSize heads boundAt (omega arith)
 
   same-start : startOf s ≡ startOf t
-  same-start = same-u64 s t 0 headerSize heads startAt (omega arith)
+  same-start = same-u64 s t 0 0 headerSize heads startAt (omega arith)
 
   same-form : formCauses s ++ headerCauses s ≡ formCauses t ++ headerCauses t
   same-form =
-      rw (g .lengths, same-letters, g .headers editionAt (omega arith), same-units, same-records, same-u32 s t 0 headerSize heads reservedAt (omega arith), same-start)
+      rw (g .lengths, same-letters, g .headers editionAt (omega arith), same-units, same-records, same-u32 s t 0 0 headerSize heads reservedAt (omega arith), same-start)
 
   -- a record that the walk visits names the same next one in both
   same-next : {j : ℕ} → Visited s j → nextOf s j ≡ nextOf t j
   same-next {j} v = go (ℕ-discrete j 0)
     where
       go : Dec (j ≡ 0) → nextOf s j ≡ nextOf t j
-      go (yes e) = next-first s j e ∙ same-u16 s t 0 headerSize heads firstAt (omega arith) ∙ sym (next-first t j e)
-      go (no n) = next-after s j n ∙ same-u16 s t (recordOffset j) tagAt (g .records j (omega arith) v) nextAt (omega arith) ∙ sym (next-after t j n)
+      go (yes e) = next-first s j e ∙ same-u16 s t 0 0 headerSize heads firstAt (omega arith) ∙ sym (next-first t j e)
+      go (no n) = next-after s j n ∙ same-u16 s t (recordOffset j) (recordOffset j) tagAt (g .records j (omega arith) v) nextAt (omega arith) ∙ sym (next-after t j n)
 
   -- the steps of some records are the same but for tags
   abbrev SameSteps : List ℕ → Type 0

@@ -5,13 +5,14 @@ use Rattle.units.specs.Limits.{hasFeasible}
 use Rattle.units.specs.Sets.{intersection, isSubset, size, hasUnitFrom}
 use Rattle.format.specs.Answer.{unless}
 use Rattle.format.specs.Chain.{following, chainOf, isIn, linkCauses}
-use Rattle.format.specs.Examples.{bytesOf, headerBytes, recordBytes, recordsFrom, sheetOf, All, faults, pairsOfFaults, campaigns}
+use Rattle.format.specs.Examples.{All, faults, pairsOfFaults, campaigns}
 use Rattle.format.specs.Format.{stepOf, nextOf}
-use Rattle.format.specs.Numbers.{byteAt, u16At, u32At, u64At}
+use Rattle.format.specs.Numbers.{byteAt, u16At, u32At, u64At, bytesOf}
 use Rattle.format.specs.Reading.{same, stepsCauses, readCauses, campaignOf}
+use Rattle.format.specs.Writing.{headerBytes, recordBytes, linkIn, recordsAfter, sheetOf}
 
 pub readings-hold : All faults × (All pairsOfFaults × All campaigns)
-unfolding hasFeasible intersection isSubset size hasUnitFrom unless following chainOf isIn linkCauses bytesOf headerBytes recordBytes recordsFrom sheetOf stepOf nextOf byteAt u16At u32At u64At same stepsCauses readCauses campaignOf ones onesIn faults pairsOfFaults campaigns
+unfolding hasFeasible intersection isSubset size hasUnitFrom unless following chainOf isIn linkCauses bytesOf headerBytes recordBytes linkIn recordsAfter sheetOf stepOf nextOf byteAt u16At u32At u64At same stepsCauses readCauses campaignOf ones onesIn faults pairsOfFaults campaigns
 readings-hold = (
   (refl, (refl, (refl, (refl, (refl, (refl, (refl, (refl, (refl, (refl, (refl, (refl, (refl, (refl, (refl, (refl, tt)))))))))))))))),
   ((refl, (refl, (refl, (refl, (refl, (refl, (refl, (refl, (refl, (refl, (refl, (refl, tt)))))))))))), (refl, (refl, tt))),

@@ -4,5 +4,7 @@ pub mod Agreements
 pub mod Answers
 pub mod Chains
 pub mod Examples
+pub mod Numbers
 pub mod Readings
 pub mod Records
+pub mod Writings

@@ -1,40 +1,16 @@
 -- Worked examples of the reader: sheets written out, and what the reader says of each, either one refusal with its place or the campaign. One statement, `All`
 -- of the table, is proved in proofs/Examples.antt from the definitions alone. The theorems do not say which byte a tag begins at or which place a refusal
 -- has; these rows do.
-use Prim.Native.Nat.{ℕ, zero, suc, _+_, _/_, _%_}
+use Prim.Native.Nat.{ℕ}
 use mathlib.Core.Path.{_≡_}
 use mathlib.Core.List.{List, [], _∷_, _++_}
-use lib.ListN.{length, replicate, set, take}
+use lib.ListN.{replicate, set, take}
 use Rattle.format.specs.declared.Step.{Step}
-use Rattle.format.specs.Answer.{Answer, Refused, Given, unless}
-use Rattle.format.specs.Format.{letters, edition}
-use Rattle.format.specs.Reading.{readCauses, Campaign, campaignOf}
+use Rattle.format.specs.Answer.{Answer, Refused, Given}
+use Rattle.format.specs.Reading.{Campaign, campaignRead}
+use Rattle.format.specs.Writing.{headerBytes, recordBytes, sheetOf}
 
--- ---- the bytes of a sheet
-
--- the k bytes of a number, the lowest first
-unfoldable pub bytesOf : ℕ → ℕ → List ℕ
-bytesOf zero n = []
-bytesOf (suc k) n = n % 256 ∷ bytesOf k (n / 256)
-
--- a header of d units and r records, with the number of the first record, the bound and the start set
-unfoldable pub headerBytes : ℕ → ℕ → ℕ → ℕ → ℕ → List ℕ
-headerBytes d r first bound start =
-    letters ++ (edition ∷ d ∷ []) ++ bytesOf 2 r ++ bytesOf 2 first ++ bytesOf 2 bound ++ bytesOf 4 0 ++ bytesOf 8 start
-
--- a record: its step, and the number of the next record
-unfoldable pub recordBytes : Step → ℕ → List ℕ
-recordBytes x next = bytesOf 8 (x .lower) ++ bytesOf 8 (x .upper) ++ (x .least ∷ x .greatest ∷ []) ++ bytesOf 2 next ++ bytesOf 4 (x .tag)
-
--- the records of some steps in their order, of which the first is record j
-unfoldable pub recordsFrom : ℕ → List Step → List ℕ
-recordsFrom j [] = []
-recordsFrom j (x ∷ []) = recordBytes x 0
-recordsFrom j (x ∷ y ∷ xs) = recordBytes x (j + 1) ++ recordsFrom (j + 1) (y ∷ xs)
-
--- a sheet of d units with a bound, a start set and some steps, at least one, in the order of the records
-unfoldable pub sheetOf : ℕ → ℕ → ℕ → List Step → List ℕ
-sheetOf d bound start xs = headerBytes d (length xs) 1 bound start ++ recordsFrom 1 xs
+-- ---- steps
 
 -- a step: its lower and upper set, its least and greatest number and its tag, and one with tag 0
 abbrev pub tagged : ℕ → ℕ → ℕ → ℕ → ℕ → Step
@@ -47,7 +23,7 @@ step l u m g = tagged l u m g 0
 
 -- one unit and no step (B5)
 abbrev pub noStep : List ℕ
-noStep = headerBytes 1 0 0 0 0
+noStep = sheetOf 1 0 0 []
 
 -- one unit and one record, with these numbers of the first record, in the header, and of the next, in the record: with 1 and 1 the record names itself
 -- (B8), and with 2 and 0 the first record is not there (B9)
@@ -84,7 +60,7 @@ pub record Example : Type 0 where
 -- every row of a table holds
 abbrev pub All : List Example → Type 0
 All [] = Unit {0}
-All (x ∷ xs) = (unless (readCauses (x .sheet)) (Given (campaignOf (x .sheet))) ≡ x .says) × All xs
+All (x ∷ xs) = (campaignRead (x .sheet) ≡ x .says) × All xs
 
 abbrev row : List ℕ → Answer Campaign → Example
 row s a = record { sheet = s; says = a }

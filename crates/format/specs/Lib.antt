@@ -1,5 +1,6 @@
 -- Read in this order: `Numbers` in bytes, the `Format` of header and records, what an `Answer` is, the walk along the `Chain`, and the `Reading` of a whole
--- sheet. `Stages` says the same of the reader's stages, `Agreement` which sheets differ in nothing that counts, and `Examples` has sheets written out.
+-- sheet. `Writing` has the bytes of a sheet that is written. `Stages` says what the reader's stages say, `Agreement` which sheets differ in nothing that counts,
+-- and `Examples` has sheets written out.
 pub mod Agreement
 pub mod Answer
 pub mod Chain
@@ -8,3 +9,4 @@ pub mod Format
 pub mod Numbers
 pub mod Reading
 pub mod Stages
+pub mod Writing

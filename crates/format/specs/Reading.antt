@@ -8,7 +8,7 @@ use lib.ListN.{length}
 use Rattle.units.specs.Limits.{hasFeasible}
 use Rattle.units.specs.Sets.{hasUnitFrom}
 use Rattle.format.specs.declared.Step.{Step}
-use Rattle.format.specs.Answer.{Cause, cause}
+use Rattle.format.specs.Answer.{Answer, Given, Cause, cause, unless}
 use Rattle.format.specs.Chain.{chainOf, linkCauses}
 use Rattle.format.specs.Format.{letters, edition, headerSize, editionAt, unitsAt, recordsAt, reservedAt, startAt, unitLimit, recordLimit, sheetLength, longest, lettersOf, editionOf, unitsOf, recordsOf, boundOf, reservedOf, startOf, stepOf}
 
@@ -78,3 +78,7 @@ pub record Campaign : Type 0 where
 
 unfoldable pub campaignOf : List ℕ → Campaign
 campaignOf s = record { units = unitsOf s; bound = boundOf s; start = startOf s; steps = stepsOf s }
+
+-- one refusal of 1 to 7, or the campaign
+abbrev pub campaignRead : List ℕ → Answer Campaign
+campaignRead s = unless (readCauses s) (Given (campaignOf s))

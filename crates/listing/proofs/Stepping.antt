@@ -9,10 +9,10 @@ use lib.Seq.{drop-cons}
 use Rattle.plans.specs.Switch.{switches}
 use Rattle.promises.specs.Digits.{decimal, hexadecimal}
 use Rattle.promises.specs.Listing.{field, blank, lineEnd, stepLine, stepLines}
-use Rattle.listing.specs.Placed.{Placed}
+use Rattle.writer.specs.Placed.{Placed}
 use Rattle.listing.specs.Room.{stepMost}
 use Rattle.listing.proofs.Numerals.{decimal-width, hexadecimal-length}
-use Rattle.listing.proofs.Places.{placed-then, placed-none, placed-as}
+use Rattle.writer.proofs.Places.{placed-then, placed-none, placed-as}
 
 dropped : (l : List ℕ) (i : ℕ) → length l ≤ i → drop i l ≡ []
 dropped [] zero h = refl

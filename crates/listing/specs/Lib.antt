@@ -1,3 +1,2 @@
--- How a text is `Placed` in an output, and the `Room` that it takes. What the text is stands in specs/Listing.antt of `promises`.
-pub mod Placed
+-- The `Room` that a listing takes. What its text is stands in specs/Listing.antt of `promises`.
 pub mod Room

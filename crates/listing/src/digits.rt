@@ -1,10 +1,11 @@
 // Numbers as digits in ASCII: decimal without leading zeros, and hexadecimal, two digits at a time.
+use writer::put::put_byte;
 ghost use mathlib.Core.Path.{_≡_};
 ghost use mathlib.Core.List.{[], _∷_};
 ghost use Prim.Native.Nat.{_+_, _*_, _/_, _%_, _≤_, _<_};
 ghost use lib.ListN.{length};
 ghost use Rattle.promises.specs.Digits.{digit, decimal, hexadecimal};
-ghost use Rattle.listing.specs.Placed.{Placed};
+ghost use Rattle.writer.specs.Placed.{Placed};
 
 // The two hexadecimal digits of each byte, from 00 to ff.
 const PAIRS: [u8; 512] =
@@ -25,15 +26,6 @@ fn pair_of(byte: usize) -> Pair
         high: PAIRS[2 * byte],
         low: PAIRS[2 * byte + 1],
     }
-}
-
-// Puts a byte, and gives the place after it.
-pub(crate) fn put_byte(x: u8, out: &mut [u8], at: usize) -> usize
-    requires { ⌜ at < length (now out) ⌝ }
-    ensures { λ r. ⌜ Placed (x ∷ []) (now (out .entry)) at (now (out .exit)) r ⌝ }
-{
-    out[at] = x;
-    at + 1
 }
 
 // Puts a decimal digit, and gives the place after it.

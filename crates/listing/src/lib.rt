@@ -23,7 +23,7 @@ ghost use Rattle.format.specs.Format.{recordLimit};
 ghost use Rattle.format.specs.Stages.{summaryRead};
 ghost use Rattle.promises.specs.Listing.{planLines, listing, listPlan};
 ghost use Rattle.listing.specs.Room.{longestListing};
-ghost use Rattle.listing.specs.Placed.{Placed};
+ghost use Rattle.writer.specs.Placed.{Placed};
 
 // No listing is longer: a first line, a line for each step of the longest sheet, and a last line.
 pub const LONGEST: usize = FIRST_LINE + Sheet::RECORD_LIMIT * STEP_LINE + TOTAL_LINE;

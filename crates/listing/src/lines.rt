@@ -1,9 +1,10 @@
 // The lines of a listing. Each function puts a text at a place of the output, and gives the place after it.
-use super::digits::put_byte;
 use super::digits::put_decimal;
 use super::digits::put_hexadecimal;
 use units::difference;
 use units::size;
+use writer::put::put_byte;
+use writer::put::put_text;
 ghost use mathlib.Core.List.{_++_};
 ghost use Prim.Native.Nat.{_+_, _*_, _≤_, _<_};
 ghost use lib.ListN.{length};
@@ -11,7 +12,7 @@ ghost use Rattle.format.specs.Format.{recordLimit};
 ghost use Rattle.promises.specs.Digits.{decimal};
 ghost use Rattle.promises.specs.Listing.{firstLine, stepLine, stepLines, totalLine, refusedLine};
 ghost use Rattle.listing.specs.Room.{firstMost, stepMost, totalMost, refusedMost};
-ghost use Rattle.listing.specs.Placed.{Placed};
+ghost use Rattle.writer.specs.Placed.{Placed};
 
 // The most bytes of a line of a listing: the first, with three numbers of 32 bits, that of a step, and the last.
 pub(crate) const FIRST_LINE: usize = 51;
@@ -19,19 +20,6 @@ pub(crate) const FIRST_LINE: usize = 51;
 pub(crate) const STEP_LINE: usize = 24;
 
 pub(crate) const TOTAL_LINE: usize = 17;
-
-// A text as it is.
-fn put_text(text: &[u8], out: &mut [u8], at: usize) -> usize
-    requires { ⌜ at + length (now text) ≤ length (now out) ⌝ }
-    ensures { λ r. ⌜ Placed (now (text .entry)) (now (out .entry)) at (now (out .exit)) r ⌝ }
-{
-    let mut i = 0;
-    while i < text.len() {
-        out[at + i] = text[i];
-        i += 1;
-    }
-    at + i
-}
 
 // A text and a number.
 fn put_field(text: &[u8], x: u32, out: &mut [u8], at: usize) -> usize

@@ -7,7 +7,7 @@ use mathlib.Core.Path.{_≡_, refl, sym, ap, _∙_}
 use mathlib.Core.Logic.{_↔_, _⊎_, inl, inr}
 use mathlib.Core.Bool.{true, false}
 use mathlib.Core.List.{List, [], _++_, map}
-use Prim.Native.Nat.{ℕ, suc, _+_, _≤_, min}
+use Prim.Native.Nat.{ℕ, suc, _+_, _^_, _≤_, _<_, min}
 use native.Mathlib.Omega.{arith}
 use lib.ListN.{length, take, drop}
 use lib.Seq.{take-at}
@@ -16,28 +16,33 @@ use Rattle.units.proofs.Limits.{some-feasible}
 use Rattle.plans.specs.Switch.{total}
 use Rattle.format.specs.declared.Step.{Step}
 use Rattle.format.specs.Agreement.{Agree, untagged, readUntagged}
-use Rattle.format.specs.Answer.{Refused, Given, unless, First}
+use Rattle.format.specs.Answer.{Refused, Given, Cause, unless, First}
 use Rattle.format.specs.Chain.{following, chainOf, linkCauses}
-use Rattle.format.specs.Format.{unitsOf, boundOf, startOf}
-use Rattle.format.specs.Reading.{stepsOf, readCauses, campaignOf}
+use Rattle.format.specs.Format.{sheetLength, unitsOf, boundOf, startOf}
+use Rattle.format.specs.Reading.{stepsCauses, stepsOf, readCauses, campaignOf, campaignRead}
+use Rattle.format.specs.Writing.{sheetOf, AllWide}
 use Rattle.format.proofs.Agreements.{same-read}
 use Rattle.format.proofs.Answers.{none-holds, numbered-append, Numbered}
 use Rattle.format.proofs.Chains.{chain-is-long-enough}
 use Rattle.format.proofs.Readings.{numbered-read}
+use Rattle.format.proofs.Writings.{sheet-length, written-reads}
 use Rattle.promises.specs.Chart.{onWords, offWords, charted, warmChart}
 use Rattle.promises.specs.Common.{placesCauses, written, refusedReply, fullReply}
 use Rattle.promises.specs.Plan.{supportOn, boundCauses, planRefusals, planned, warmPlan}
 use Rattle.promises.specs.declared.Reply.{Reply}
+use Rattle.promises.specs.declared.Written.{Written}
 use Rattle.promises.specs.Listing.{refusedLine, planLines, listingRefusals, listed, listing, printed, listPlan}
 use Rattle.promises.specs.Statements.{Exact, Passes, Meets, HandedOut, FewestAndExact}
 use Rattle.promises.specs.Steps.{stepsRefusals, stepsReply, stepsWritten, warmSteps}
 use Rattle.promises.specs.Verdict.{wordsCauses, verdictRefusals, accepts, judged, warmVerdict}
+use Rattle.promises.specs.Write.{writeRefusals, refusedWritten, fullWritten, wrote, warmWrite}
 use Rattle.promises.proofs.Charts.{words-length, words-cells, no-others}
 use Rattle.promises.proofs.Exactly.{exact}
 use Rattle.promises.proofs.Likeness.{alike-reply, alike-list, alike-plan, alike-chart, alike-verdict, alike-listing}
 use Rattle.promises.proofs.Plans.{plan-fewest, plan-length-on, over-bound, in-bound, plan-open, plan-given}
 use Rattle.promises.proofs.Read.{passed}
 use Rattle.promises.proofs.Verdicts.{verdict-given, accepts-exactly, turned-down}
+use Rattle.promises.proofs.Writes.{limited}
 
 -- ---- demand 1
 
@@ -105,6 +110,21 @@ demand-1-listing s out =
     exact (listingRefusals s) ListingNumber
     (numbered-append ListingNumber (readCauses s) (boundCauses s) (numbered-read ListingNumber (λ n l h. inl (l, h)) s) (inr refl, tt)) (supportOn s)
     (λ a. printed (listed s a) out)
+
+-- refusals 11 and 12
+abbrev pub WriteNumber : ℕ → Type 0
+WriteNumber n = (11 ≤ n) × (n ≤ 12)
+
+pub demand-1-write : (d bound start : ℕ) (xs : List Step) (out : List ℕ)
+    → Exact (writeRefusals d start (length xs) (length out)) WriteNumber (warmWrite d bound start xs out) (λ n p. (refusedWritten n p, out))
+    (fullWritten (length (sheetOf d bound start xs)), written (sheetOf d bound start xs) out)
+unfolding warmWrite wrote writeRefusals Numbered
+demand-1-write d bound start xs out =
+    exact (writeRefusals d start (length xs) (length out)) WriteNumber (eleven, (eleven, (eleven, (eleven, ((omega arith, omega arith), tt))))) (sheetOf d bound start xs)
+    (wrote out)
+  where
+    eleven : WriteNumber 11
+    eleven = (omega arith, omega arith)
 
 -- ---- demand 2: a plan handed in beside a sheet that passes the checks
 
@@ -175,6 +195,38 @@ a-feasible-set x = some-feasible (x .lower) (x .upper) (x .least) (x .greatest)
 pub the-walk-ends : (s : List ℕ) (r more : ℕ)
     → unless (linkCauses r [] 0 (following (suc r + more) s 0)) (Given (following (suc r + more) s 0)) ≡ unless (linkCauses r [] 0 (chainOf s r)) (Given (chainOf s r))
 the-walk-ends s r more = chain-is-long-enough s r more
+
+-- ---- a sheet that was written
+
+-- its length, which is the place of refusal 12, is that of a sheet with a record for each step
+pub written-length : (d bound start : ℕ) (xs : List Step) → length (sheetOf d bound start xs) ≡ sheetLength (length xs)
+written-length d bound start xs = sheet-length d bound start xs
+
+-- Where a sheet was written, with a reply whose refusal is 0, and each number is as wide as its field, the reader says of it the refusal of the first faulty
+-- step, 6 or 7, or else the same units, bound, start set and steps, tags included.
+pub written-reads-back : (d bound start : ℕ) (xs : List Step) (out : List ℕ) → bound < 2 ^ 16 → AllWide xs → warmWrite d bound start xs out .0 .refusal ≡ 0
+    → campaignRead (take (warmWrite d bound start xs out .0 .length) (warmWrite d bound start xs out .1))
+    ≡ unless (stepsCauses d 1 xs) (Given (record { units = d; bound = bound; start = start; steps = xs }))
+written-reads-back d bound start xs out narrow wide handed = go (exactly .decided)
+  where
+    s : List ℕ
+    s = sheetOf d bound start xs
+
+    causes : List Cause
+    causes = writeRefusals d start (length xs) (length out)
+
+    exactly : Exact causes WriteNumber (warmWrite d bound start xs out) (λ n p. (refusedWritten n p, out)) (fullWritten (length s), written s out)
+    exactly = demand-1-write d bound start xs out
+
+    go : ((n : ℕ) × ((p : ℕ) × First causes n p)) ⊎ ((n p : ℕ) → First causes n p → ⊥)
+        → campaignRead (take (warmWrite d bound start xs out .0 .length) (warmWrite d bound start xs out .1))
+        ≡ unless (stepsCauses d 1 xs) (Given (record { units = d; bound = bound; start = start; steps = xs }))
+    go (inl (n, (p, f))) = absurd (omega (arith, exactly .numbered n p f, ap (λ (r : Written × List ℕ). r .0 .refusal) (exactly .refusals n p f)))
+    go (inr none) =
+        let l = limited d start (length xs) (length out) (Given s) (none-holds causes (Given s) none) in
+        ap (λ (r : Written × List ℕ). campaignRead (take (r .0 .length) (r .1))) (exactly .replies none)
+        ∙ ap campaignRead (take-at s (drop (length s) out) (length s) refl)
+        ∙ written-reads d bound start xs (l .few) (l .some) (l .most) (l .own) narrow wide
 
 -- ---- sheets that differ only in job tags and in records off the chain
 

@@ -4,10 +4,10 @@ use Rattle.units.specs.Limits.{hasFeasible}
 use Rattle.units.specs.Sets.{bit, union, intersection, difference, contains, insert, remove, isSubset, size, unitsBelow, hasUnitFrom}
 use Rattle.format.specs.Answer.{unless}
 use Rattle.format.specs.Chain.{following, chainOf, isIn, linkCauses}
-use Rattle.format.specs.Examples.{bytesOf, headerBytes, recordBytes, recordsFrom, sheetOf}
 use Rattle.format.specs.Format.{stepOf, nextOf}
-use Rattle.format.specs.Numbers.{byteAt, u16At, u32At, u64At}
+use Rattle.format.specs.Numbers.{byteAt, u16At, u32At, u64At, bytesOf}
 use Rattle.format.specs.Reading.{same, stepsCauses, readCauses, campaignOf}
+use Rattle.format.specs.Writing.{headerBytes, recordBytes, linkIn, recordsAfter, sheetOf}
 use Rattle.plans.specs.Plans.{select, below, allows, isFeasible, prefixed, plansOf, leastOf, fewest, plansWithin, joined, joinedAll, canBeOn, canBeOff}
 use Rattle.plans.specs.Support.{nextRequired, nextForbidden, requiredFirst, ranksBefore, firstIn, taken, supportSet, supportFrom, findSupport}
 use Rattle.plans.specs.Switch.{switches, total}
@@ -16,11 +16,12 @@ use Rattle.promises.specs.Steps.{stepsRefusals, stepsReply, stepsWritten
 use Rattle.promises.specs.Plan.{fewestOn, supportOn, planRefusals, planned, warmPlan}
 use Rattle.promises.specs.Chart.{onWords, offWords, charted, warmChart}
 use Rattle.promises.specs.Verdict.{verdictRefusals, accepts, judged, warmVerdict}
-use Rattle.promises.specs.Examples.{All, benches, replies, choices}
+use Rattle.promises.specs.Write.{writeRefusals, wrote, warmWrite}
+use Rattle.promises.specs.Examples.{All, benches, replies, choices, writings}
 
-pub examples-hold : All benches × (All replies × All choices)
-unfolding hasFeasible bit union intersection difference contains insert remove isSubset size unitsBelow hasUnitFrom unless following chainOf isIn linkCauses stepOf nextOf byteAt u16At u32At u64At same stepsCauses readCauses campaignOf select below allows isFeasible prefixed plansOf leastOf fewest plansWithin joined joinedAll canBeOn canBeOff nextRequired nextForbidden requiredFirst ranksBefore firstIn taken supportSet supportFrom findSupport switches total stepsRefusals stepsReply stepsWritten warmSteps fewestOn supportOn planRefusals planned warmPlan onWords offWords charted warmChart verdictRefusals accepts judged warmVerdict bytesOf headerBytes recordBytes recordsFrom sheetOf ones onesIn benches replies choices
+pub examples-hold : All benches × (All replies × (All choices × All writings))
+unfolding hasFeasible bit union intersection difference contains insert remove isSubset size unitsBelow hasUnitFrom unless following chainOf isIn linkCauses stepOf nextOf byteAt u16At u32At u64At same stepsCauses readCauses campaignOf select below allows isFeasible prefixed plansOf leastOf fewest plansWithin joined joinedAll canBeOn canBeOff nextRequired nextForbidden requiredFirst ranksBefore firstIn taken supportSet supportFrom findSupport switches total stepsRefusals stepsReply stepsWritten warmSteps fewestOn supportOn planRefusals planned warmPlan onWords offWords charted warmChart verdictRefusals accepts judged warmVerdict writeRefusals wrote warmWrite bytesOf headerBytes recordBytes linkIn recordsAfter sheetOf ones onesIn benches replies choices writings
 examples-hold = (
   (refl, (refl, (refl, (refl, (refl, (refl, (refl, (refl, (refl, (refl, (refl, tt))))))))))),
-  ((refl, (refl, (refl, (refl, (refl, (refl, (refl, (refl, (refl, (refl, (refl, tt))))))))))), (refl, (refl, (refl, (refl, (refl, (refl, (refl, (refl, (refl, (refl, (refl, (refl, tt))))))))))))),
+  ((refl, (refl, (refl, (refl, (refl, (refl, (refl, (refl, (refl, (refl, (refl, tt))))))))))), ((refl, (refl, (refl, (refl, (refl, (refl, (refl, (refl, (refl, (refl, (refl, (refl, tt)))))))))))), (refl, (refl, (refl, (refl, (refl, (refl, (refl, (refl, tt)))))))))),
 )

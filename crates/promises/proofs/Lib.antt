@@ -1,5 +1,5 @@
 -- `Demands` has the theorems that were asked for: open it first. `Exactly` has the law behind demand 1. `Read` has what is known of a sheet that was read.
--- `Steps`, `Plans`, `Charts`, `Verdicts` and `Listings` have the laws on each entry's answer, `Likeness` those on sheets that are read the same but for
+-- `Steps`, `Plans`, `Charts`, `Verdicts`, `Writes` and `Listings` have the laws on each entry's answer, `Likeness` those on sheets that are read the same but for
 -- tags, and `Examples` the worked examples.
 pub mod Charts
 pub mod Demands
@@ -11,3 +11,4 @@ pub mod Plans
 pub mod Read
 pub mod Steps
 pub mod Verdicts
+pub mod Writes

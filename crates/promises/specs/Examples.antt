@@ -3,16 +3,19 @@
 use Prim.Native.Nat.{ℕ}
 use mathlib.Core.Path.{_≡_}
 use mathlib.Core.List.{List, [], _∷_, _++_}
-use lib.ListN.{set}
+use lib.ListN.{set, replicate}
 use Rattle.format.specs.declared.Step.{Step}
-use Rattle.format.specs.Examples.{sheetOf, tagged, step, noStep, oneRecord, tagsAndUnused}
+use Rattle.format.specs.Examples.{tagged, step, noStep, oneRecord, tagsAndUnused}
+use Rattle.format.specs.Writing.{sheetOf}
 use Rattle.promises.specs.declared.Reply.{Reply}
 use Rattle.promises.specs.declared.StepsReply.{StepsReply}
+use Rattle.promises.specs.declared.Written.{Written}
 use Rattle.promises.specs.Common.{refusedReply, fullReply}
 use Rattle.promises.specs.Steps.{warmSteps}
 use Rattle.promises.specs.Plan.{warmPlan}
 use Rattle.promises.specs.Chart.{warmChart}
 use Rattle.promises.specs.Verdict.{warmVerdict}
+use Rattle.promises.specs.Write.{refusedWritten, fullWritten, warmWrite}
 
 -- ---- sheets
 
@@ -34,18 +37,20 @@ asks lower upper = step lower upper 0 2
 
 -- ---- the table
 
--- a call of an entry on a sheet and lent memory, with its reply and what the memory holds afterwards
+-- a call of an entry on a sheet, or on what a sheet is written from, and lent memory, with its reply and what the memory holds afterwards
 pub data Example : Type 0 where
   steps : List ℕ → List Step → StepsReply → List Step → Example
   plan : List ℕ → List ℕ → Reply → List ℕ → Example
   chart : List ℕ → List ℕ → List ℕ → Reply → List ℕ → List ℕ → Example
   verdict : List ℕ → List ℕ → Reply → Example
+  write : ℕ → ℕ → ℕ → List Step → List ℕ → Written → List ℕ → Example
 
 abbrev pub Holds : Example → Type 0
 Holds (steps s out reply after) = warmSteps s out ≡ (reply, after)
 Holds (plan s out reply after) = warmPlan s out ≡ (reply, after)
 Holds (chart s on off reply on-after off-after) = warmChart s on off ≡ (reply, (on-after, off-after))
 Holds (verdict s handed reply) = warmVerdict s handed ≡ reply
+Holds (write d bound start xs out reply after) = warmWrite d bound start xs out ≡ (reply, after)
 
 -- every row of a table holds
 abbrev pub All : List Example → Type 0
@@ -118,4 +123,23 @@ choices =
     ∷ plan (oneOfTwo 3 (asks 0 2 ∷ [])) (9 ∷ 9 ∷ []) (fullReply 0 0) (2 ∷ 2 ∷ [])
     ∷ plan (oneOfTwo 3 (asks 0 2 ∷ asks 1 3 ∷ [])) (9 ∷ 9 ∷ 9 ∷ []) (fullReply 1 0) (2 ∷ 2 ∷ 3 ∷ [])
     ∷ plan (sheetOf 3 1 6 (step 1 7 0 1 ∷ [])) (9 ∷ []) (fullReply 1 0) (1 ∷ [])
+    ∷ []
+
+-- Sheets written out byte by byte: two steps, of which the first has a byte of its own in each place of its numbers, into an output with one place more; and no
+-- step. Then refusals 11 and 12: no unit, a unit too many, a start set with a unit from d up, a step too many, and an output that is too short, by one
+-- byte or for the longest sheet. Where both apply, it is 11.
+unfoldable pub writings : List Example
+writings =
+    write 64 515 578437695752307201 (tagged 1735880461161533969 2893323226570760737 49 50 1414746705 ∷ tagged 0 0 0 0 4294967295 ∷ []) (replicate 73 9) (fullWritten 72)
+    (87 ∷ 65 ∷ 82 ∷ 77 ∷ 1 ∷ 64 ∷ 2 ∷ 0 ∷ 1 ∷ 0 ∷ 3 ∷ 2 ∷ 0 ∷ 0 ∷ 0 ∷ 0 ∷ 1 ∷ 2 ∷ 3 ∷ 4 ∷ 5 ∷ 6 ∷ 7 ∷ 8
+    ∷ 17 ∷ 18 ∷ 19 ∷ 20 ∷ 21 ∷ 22 ∷ 23 ∷ 24 ∷ 33 ∷ 34 ∷ 35 ∷ 36 ∷ 37 ∷ 38 ∷ 39 ∷ 40 ∷ 49 ∷ 50 ∷ 2 ∷ 0 ∷ 81 ∷ 82 ∷ 83 ∷ 84
+    ∷ 0 ∷ 0 ∷ 0 ∷ 0 ∷ 0 ∷ 0 ∷ 0 ∷ 0 ∷ 0 ∷ 0 ∷ 0 ∷ 0 ∷ 0 ∷ 0 ∷ 0 ∷ 0 ∷ 0 ∷ 0 ∷ 0 ∷ 0 ∷ 255 ∷ 255 ∷ 255 ∷ 255 ∷ 9 ∷ [])
+    ∷ write 1 0 0 [] (replicate 24 9) (fullWritten 24)
+    (87 ∷ 65 ∷ 82 ∷ 77 ∷ 1 ∷ 1 ∷ 0 ∷ 0 ∷ 0 ∷ 0 ∷ 0 ∷ 0 ∷ 0 ∷ 0 ∷ 0 ∷ 0 ∷ 0 ∷ 0 ∷ 0 ∷ 0 ∷ 0 ∷ 0 ∷ 0 ∷ 0 ∷ [])
+    ∷ write 0 0 0 [] (replicate 24 9) (refusedWritten 11 0) (replicate 24 9)
+    ∷ write 65 0 0 [] (replicate 24 9) (refusedWritten 11 0) (replicate 24 9)
+    ∷ write 1 0 2 [] (replicate 24 9) (refusedWritten 11 0) (replicate 24 9)
+    ∷ write 1 0 0 (replicate 257 nineStep) nines (refusedWritten 11 0) nines
+    ∷ write 1 0 0 (replicate 256 nineStep) nines (refusedWritten 12 6168) nines
+    ∷ write 1 0 0 [] (replicate 23 9) (refusedWritten 12 24) (replicate 23 9)
     ∷ []

@@ -13,11 +13,20 @@ pub struct StepsReply {
     pub start: u64,
 }
 
-// What the other entries reply. Where refusal is not 0, it is a refusal with its place, and the other numbers are 0.
+// What `warm_plan`, `warm_chart` and `warm_verdict` reply. Where refusal is not 0, it is a refusal with its place, and the other numbers are 0.
 #[repr(C)]
 pub struct Reply {
     pub refusal: u32,
     pub place: u32,
     pub total: u32,
     pub accepted: u32,
+}
+
+// What `warm_write` replies. Where refusal is not 0, it is a refusal with its place, and the other numbers are 0.
+#[repr(C)]
+pub struct Written {
+    pub refusal: u32,
+    pub place: u32,
+    pub length: u32,
+    pub reserved: u32,
 }

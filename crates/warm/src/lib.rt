@@ -3,6 +3,7 @@
 pub mod charting;
 pub mod judging;
 pub mod planning;
+pub mod writing;
 
 use format::Step;
 use promises::Reply;

@@ -6,7 +6,7 @@ use borrow.Author.Needs.{needs}
 use Rattle.sheet.specs.Told.{readTold}
 use Rattle.promises.proofs.Read.{was-opened}
 use Rattle.promises.proofs.Listings.{listing-unread}
-use Rattle.listing.proofs.Places.{placed-as, placed-first}
+use Rattle.writer.proofs.Places.{placed-as, placed-first}
 use Rattle.listing.proofs.list_plan.Statement.{statement}
 use Rattle.listing.proofs.list_plan.Tie as tie
 

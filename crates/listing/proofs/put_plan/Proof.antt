@@ -7,7 +7,7 @@ use denote.Ref.{now}
 use lib.ListN.{length, take}
 use lib.Seq.{length-take-le}
 use Rattle.promises.specs.Listing.{firstLine, stepLines, totalLine, planLines}
-use Rattle.listing.proofs.Places.{placed-then, placed-length, placed-as}
+use Rattle.writer.proofs.Places.{placed-then, placed-length, placed-as}
 use borrow.Author.Needs.{needs}
 use Rattle.listing.proofs.put_plan.Statement.{statement}
 use Rattle.listing.proofs.put_plan.Tie as tie

@@ -3,7 +3,7 @@ use mathlib.Core.Path.{sym, ap}
 use native.Mathlib.Omega.{arith}
 use lib.ListN.{length}
 use Rattle.listing.proofs.Numerals.{decimal-small, decimal-more, decimal-longer}
-use Rattle.listing.proofs.Places.{placed-then, placed-length, placed-as}
+use Rattle.writer.proofs.Places.{placed-then, placed-length, placed-as}
 use Prim.Native.Nat.{ℕ, _<_}
 use borrow.Fn.Kinds.{In}
 use borrow.Fn.PlainCycle.{Measures, is, falls, and}

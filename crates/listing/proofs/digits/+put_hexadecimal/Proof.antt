@@ -3,7 +3,7 @@ use mathlib.Core.Path.{sym}
 use Prim.Native.Nat.{_*_, _-_, _/_}
 use native.Mathlib.Omega.{arith}
 use Rattle.listing.proofs.Numerals.{hexadecimal-none, hexadecimal-byte, hexadecimal-length}
-use Rattle.listing.proofs.Places.{placed-none, placed-then, placed-length, placed-as}
+use Rattle.writer.proofs.Places.{placed-none, placed-then, placed-length, placed-as}
 use Prim.Native.Nat.{ℕ, _<_}
 use borrow.Fn.Kinds.{In}
 use borrow.Fn.PlainCycle.{Measures, is, falls, and}

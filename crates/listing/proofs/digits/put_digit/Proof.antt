@@ -4,7 +4,7 @@ use mathlib.Core.List.{[], _∷_}
 use Prim.Native.Nat.{ℕ}
 use borrow.Author.Needs.{needs}
 use Rattle.listing.proofs.Numerals.{decimal-digit}
-use Rattle.listing.proofs.Places.{placed-as}
+use Rattle.writer.proofs.Places.{placed-as}
 use Rattle.listing.proofs.digits.put_digit.Statement.{statement}
 use Rattle.listing.proofs.digits.put_digit.Tie as tie
 

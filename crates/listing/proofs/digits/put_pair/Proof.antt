@@ -4,7 +4,7 @@ use mathlib.Core.List.{[], _∷_}
 use Prim.Native.Nat.{ℕ}
 use native.Mathlib.Omega.{arith}
 use borrow.Author.Needs.{needs}
-use Rattle.listing.proofs.Places.{placed-then, placed-length, placed-as}
+use Rattle.writer.proofs.Places.{placed-then, placed-length, placed-as}
 use Rattle.listing.proofs.digits.put_pair.Statement.{statement}
 use Rattle.listing.proofs.digits.put_pair.Tie as tie
 

@@ -1,6 +1,6 @@
 -- `listing::lines::put_field` meets its contract.
 use native.Mathlib.Omega.{arith}
-use Rattle.listing.proofs.Places.{placed-then, placed-length}
+use Rattle.writer.proofs.Places.{placed-then, placed-length}
 use borrow.Author.Needs.{needs}
 use Rattle.listing.proofs.lines.put_field.Statement.{statement}
 use Rattle.listing.proofs.lines.put_field.Tie as tie

@@ -2,7 +2,7 @@
 use native.Mathlib.Omega.{arith}
 use Rattle.promises.specs.Listing.{firstLine}
 use Rattle.listing.proofs.Numerals.{decimal-width, word-width}
-use Rattle.listing.proofs.Places.{placed-then, placed-length}
+use Rattle.writer.proofs.Places.{placed-then, placed-length}
 use borrow.Author.Needs.{needs}
 use Rattle.listing.proofs.lines.put_first_line.Statement.{statement}
 use Rattle.listing.proofs.lines.put_first_line.Tie as tie

@@ -6,7 +6,7 @@ use lib.ListN.{length}
 use Rattle.units.specs.Sets.{difference, size}
 use Rattle.plans.specs.Switch.{switches}
 use Rattle.units.proofs.Sets.{size-below}
-use Rattle.listing.proofs.Places.{placed-length}
+use Rattle.writer.proofs.Places.{placed-length}
 use Rattle.listing.proofs.Stepping.{Stepping, started, onward, ended}
 use borrow.Author.Needs.{needs}
 use Rattle.listing.proofs.lines.put_step_lines.Statement.{statement}

@@ -1,14 +1,14 @@
--- `listing::lines::put_text` meets its contract. The loop's invariant: the first i bytes of the text are in their places.
+-- `writer::put::put_text` meets its contract. The loop's invariant: the first i bytes of the text are in their places.
 use Prim.Native.Nat.{_+_, _-_, _≤_}
 use native.Mathlib.Omega.{arith}
 use denote.Ref.{now}
 use lib.ListN.{length, take}
 use lib.Seq.{take-all}
-use Rattle.listing.specs.Placed.{Placed}
-use Rattle.listing.proofs.Places.{placed-none, placed-more, placed-length, placed-as, placed-at}
+use Rattle.writer.specs.Placed.{Placed}
+use Rattle.writer.proofs.Places.{placed-none, placed-more, placed-length, placed-as, placed-at}
 use borrow.Author.Needs.{needs}
-use Rattle.listing.proofs.lines.put_text.Statement.{statement}
-use Rattle.listing.proofs.lines.put_text.Tie as tie
+use Rattle.writer.proofs.put.put_text.Statement.{statement}
+use Rattle.writer.proofs.put.put_text.Tie as tie
 
 abbrev Inv-loop : tie.InvT-loop
 Inv-loop text out₀ at i₀ out i = (i ≤ length text) × Placed (take i text) out₀ at out (at + i)

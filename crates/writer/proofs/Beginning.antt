@@ -1,0 +1,41 @@
+-- Laws on how a sheet begins: a reply without a refusal says that none is given, and then the header is put.
+use mathlib.Core.Path.{_≡_, refl, sym, ap, subst, _∙_}
+use mathlib.Core.Logic.{_⊎_, inl, inr}
+use mathlib.Core.List.{List, []}
+use Prim.Native.Nat.{ℕ}
+use native.Mathlib.Omega.{arith}
+use lib.Seq.{sets}
+use Rattle.format.specs.Answer.{Answer, Refused, Given, Cause, unless, First}
+use Rattle.format.specs.Format.{sheetLength}
+use Rattle.format.proofs.Answers.{first-decided, first-refuses, none-holds, numbered-first, Numbered}
+use Rattle.promises.specs.declared.Written.{Written}
+use Rattle.promises.specs.Write.{writeRefusals}
+use Rattle.writer.specs.Begun.{replied, begun}
+
+module _ (d start n places : ℕ) where
+  -- one refusal of 11 and 12, or the sheet's length
+  abbrev pub answer : Answer ℕ
+  answer = unless (writeRefusals d start n places) (Given (sheetLength n))
+
+  pub not-refused : replied answer .refusal ≡ 0 → answer ≡ Given (sheetLength n)
+  unfolding replied writeRefusals Numbered
+  not-refused e = go (first-decided causes)
+    where
+      causes : List Cause
+      causes = writeRefusals d start n places
+
+      numbers : Numbered (λ k. k ≡ 0 → ⊥) causes
+      numbers = ((λ k. omega arith), ((λ k. omega arith), ((λ k. omega arith), ((λ k. omega arith), ((λ k. omega arith), tt)))))
+
+      go : ((k : ℕ) × ((p : ℕ) × First causes k p)) ⊎ ((k p : ℕ) → First causes k p → ⊥) → answer ≡ Given (sheetLength n)
+      go (inl (k, (p, f))) = absurd (numbered-first (λ k. k ≡ 0 → ⊥) f numbers (ap (λ a. replied a .refusal) (first-refuses f (Given (sheetLength n))) ∙ e))
+      go (inr none) = none-holds causes (Given (sheetLength n)) none
+
+pub begun-refused : (header out : List ℕ) (a : Answer ℕ) → (replied a .refusal ≡ 0 → ⊥) → (replied a, out) ≡ begun header out a
+unfolding replied begun
+begun-refused header out (Refused k p) h = refl
+begun-refused header out (Given long) h = absurd (h refl)
+
+pub begun-given : (header out : List ℕ) (a : Answer ℕ) {long : ℕ} → a ≡ Given long → (replied a, sets out 0 header) ≡ begun header out a
+unfolding begun
+begun-given header out a e = subst (λ b. (replied b, sets out 0 header) ≡ begun header out b) (sym e) refl

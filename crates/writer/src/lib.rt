@@ -1,0 +1,83 @@
+// What is put into an output: bytes, texts and numbers, and a sheet that is written, up to the loop over its steps: refusals 11 and 12, the header, and one
+// record. specs/Writing.antt of `format` has the bytes of a sheet. Nothing here is an open entry of the library.
+pub mod put;
+pub mod records;
+
+use promises::Written;
+use records::put_header;
+use sheet::Sheet;
+ghost use mathlib.Core.Path.{_≡_};
+ghost use Prim.Native.Nat.{_-_, _/_};
+ghost use lib.ListN.{length};
+ghost use Rattle.format.specs.Answer.{Given, unless};
+ghost use Rattle.format.specs.Format.{recordSize, sheetLength};
+ghost use Rattle.format.specs.Writing.{headerBytes, linkIn};
+ghost use Rattle.promises.specs.Write.{writeRefusals, refusedWritten};
+ghost use Rattle.writer.specs.Begun.{replied, begun};
+
+// A refusal.
+fn write_refused(number: u32, place: u32) -> Written
+    ensures { λ r. ⌜ r ≡ refusedWritten number place ⌝ }
+{
+    Written {
+        refusal: number,
+        place,
+        length: 0,
+        reserved: 0,
+    }
+}
+
+// The reply for a sheet of n steps, where the output has that many places.
+fn write_reply(units: u8, start: u64, n: usize, places: usize) -> Written
+    ensures { λ r. ⌜ r ≡ replied (unless (writeRefusals units start n places) (Given (sheetLength n))) ⌝ }
+{
+    if units == 0 {
+        return write_refused(11, 0);
+    }
+    if Sheet::UNIT_LIMIT < units as u64 {
+        return write_refused(11, 0);
+    }
+    if units::has_unit_from(start, units as u32) {
+        return write_refused(11, 0);
+    }
+    if Sheet::RECORD_LIMIT < n {
+        return write_refused(11, 0);
+    }
+    let length = Sheet::RECORD_SIZE * (n + 1);
+    if places < length {
+        return write_refused(12, length as u32);
+    }
+    Written {
+        refusal: 0,
+        place: 0,
+        length: length as u32,
+        reserved: 0,
+    }
+}
+
+// Begins a sheet of n steps: the reply, and the header where nothing is refused.
+pub fn begin_sheet(units: u8, bound: u16, start: u64, n: usize, out: &mut [u8]) -> Written
+    ensures { λ r.
+        ⌜
+        (r, now (out .exit)) ≡
+        begun (headerBytes units n (linkIn 0 n) bound start) (now (out .entry))
+        (unless (writeRefusals units start n (length (now (out .entry)))) (Given (sheetLength n)))
+        ⌝ }
+{
+    let reply = write_reply(units, start, n, out.len());
+    if reply.refusal == 0 {
+        put_header(units, n, bound, start, out);
+    }
+    reply
+}
+
+// How many records a sheet of that length has; 0 where nothing is written.
+pub fn records_in(length: u32) -> usize
+    ensures { λ r. ⌜ r ≡ length / recordSize - 1 ⌝ }
+{
+    let parts = length as usize / Sheet::RECORD_SIZE;
+    if parts == 0 {
+        return 0;
+    }
+    parts - 1
+}
