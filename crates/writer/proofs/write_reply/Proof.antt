@@ -1,10 +1,10 @@
 -- `writer::write_reply` meets its contract: each way out passes the causes before its own.
-use mathlib.Core.Path.{sym, ap, _∙_}
+use mathlib.Core.Path.{_≡_, sym, ap, _∙_}
 use native.Mathlib.Omega.{arith}
 use borrow.Author.Tests.{eq-eqb, ne-eqb, lt-ltb, le-ltb}
 use Rattle.format.specs.Format.{unitLimit, recordLimit, sheetLength}
 use Rattle.format.proofs.Answers.{refused-by, passed-by, none-left}
-use Rattle.promises.specs.Write.{writeRefusals}
+use Rattle.promises.specs.Write.{writeRefusals, refusedWritten}
 use Rattle.writer.specs.Begun.{replied}
 use borrow.Author.Needs.{needs}
 use Rattle.writer.proofs.write_reply.Statement.{statement}
@@ -75,7 +75,8 @@ returns-5 : tie.Need-returns-5
 unfolding writeRefusals replied
 returns-5 c =
     let a = c .before .before .before .before .before .before .before .args in
-    c .write-refused5 .ensures ∙ ap replied
+    let refused : c .write-refused5 .result ≡ refusedWritten 12 (sheetLength (a .n)) = c .write-refused5 .ensures in
+    refused ∙ ap replied
     (passed-by _ _ _ (ne-eqb (a .units) 0 (omega arith))
     (passed-by _ _ _ (le-ltb unitLimit (a .units) (omega arith))
     (passed-by _ _ _ (sym (c .before .before .before .before .has-unit-from .ensures) ∙ c .before .before .before .if3 .left)

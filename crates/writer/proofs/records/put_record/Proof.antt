@@ -1,11 +1,13 @@
 -- `writer::records::put_record` meets its contract. `so-far` is what has been put before a call, as one text.
 use mathlib.Core.Path.{ap₂, _∙_}
+use mathlib.Core.List.{[], _∷_}
 use Prim.Native.Nat.{ℕ}
 use native.Mathlib.Omega.{arith}
 use denote.Ref.{now}
 use lib.Seq.{sets}
 use Rattle.format.specs.Numbers.{bytesOf}
 use Rattle.format.specs.Writing.{recordBytes}
+use Rattle.writer.specs.Placed.{Placed}
 use Rattle.writer.proofs.Places.{placed-then, placed-length}
 use borrow.Author.Needs.{needs}
 use Rattle.writer.proofs.records.put_record.Statement.{statement}
@@ -60,7 +62,9 @@ returns : tie.Need-returns
 unfolding bytesOf recordBytes
 returns c =
     let a = c .before .before .before .before .before .before .before .before .before .before .before .before .before .before .before .before .before .before .before .before .before .before .before .before .before .before .before .before .args in
-    let all = placed-then (placed-then (placed-then (placed-then (placed-then (c .before .before .before .before .before .before .before .before .before .before .before .before .before .before .before .before .before .before .before .before .before .before .before .before .put-u64 .ensures) (c .before .before .before .before .before .before .before .before .before .before .before .before .before .before .before .before .before .before .before .before .put-u642 .ensures)) (c .before .before .before .before .before .before .before .before .before .before .before .before .before .before .before .before .put-byte .ensures)) (c .before .before .before .before .before .before .before .before .before .before .before .before .put-byte2 .ensures)) (c .before .before .before .before .before .before .before .put-u16 .ensures)) (c .before .before .put-u32 .ensures) in
+    let least : Placed (a .x .least ∷ []) _ _ _ _ = c .before .before .before .before .before .before .before .before .before .before .before .before .before .before .before .before .put-byte .ensures in
+    let greatest : Placed (a .x .greatest ∷ []) _ _ _ _ = c .before .before .before .before .before .before .before .before .before .before .before .before .put-byte2 .ensures in
+    let all = placed-then (placed-then (placed-then (placed-then (placed-then (c .before .before .before .before .before .before .before .before .before .before .before .before .before .before .before .before .before .before .before .before .before .before .before .before .put-u64 .ensures) (c .before .before .before .before .before .before .before .before .before .before .before .before .before .before .before .before .before .before .before .before .put-u642 .ensures)) least) greatest) (c .before .before .before .before .before .before .before .put-u16 .ensures)) (c .before .before .put-u32 .ensures) in
     all .stored ∙ ap₂ (λ (at next : ℕ). sets (now (a .out)) at (recordBytes (a .x) next)) (c .before .before .before .before .before .before .before .before .before .before .before .before .before .before .before .before .before .before .before .before .before .before .before .before .before .record-offset .ensures) (c .before .before .before .before .before .before .before .before .before .link-in .ensures)
 
 pub put-record-spec : {M : Type 1} → statement M
