@@ -1,5 +1,6 @@
 // The library as Rust sees it: the types and entries of include/warm.h.
 pub const STEPS: usize = 256;
+pub const BYTES: usize = 24 * (STEPS + 1);
 
 #[repr(C)]
 #[derive(Clone, Copy, Debug, Default, PartialEq)]
@@ -32,11 +33,21 @@ pub struct Reply {
     pub accepted: u32,
 }
 
+#[repr(C)]
+#[derive(Clone, Copy, Debug, Default, PartialEq)]
+pub struct Written {
+    pub refusal: u32,
+    pub place: u32,
+    pub length: u32,
+    pub reserved: u32,
+}
+
 extern "C" {
     pub fn warm_steps(sheet: *const u8, sheet_len: usize, steps: *mut Step, steps_len: usize) -> StepsReply;
     pub fn warm_plan(sheet: *const u8, sheet_len: usize, plan: *mut u64, plan_len: usize) -> Reply;
     pub fn warm_verdict(sheet: *const u8, sheet_len: usize, plan: *const u64, plan_len: usize) -> Reply;
     pub fn warm_chart(sheet: *const u8, sheet_len: usize, on: *mut u64, on_len: usize, off: *mut u64, off_len: usize) -> Reply;
+    pub fn warm_write(units: u8, bound: u16, start: u64, steps: *const Step, steps_len: usize, sheet: *mut u8, sheet_len: usize) -> Written;
 }
 
 pub fn steps(sheet: &[u8], list: &mut [Step]) -> StepsReply {
@@ -53,4 +64,8 @@ pub fn verdict(sheet: &[u8], plan: &[u64]) -> Reply {
 
 pub fn chart(sheet: &[u8], on: &mut [u64], off: &mut [u64]) -> Reply {
     unsafe { warm_chart(sheet.as_ptr(), sheet.len(), on.as_mut_ptr(), on.len(), off.as_mut_ptr(), off.len()) }
+}
+
+pub fn write(units: u8, bound: u16, start: u64, steps: &[Step], out: &mut [u8]) -> Written {
+    unsafe { warm_write(units, bound, start, steps.as_ptr(), steps.len(), out.as_mut_ptr(), out.len()) }
 }

@@ -1,4 +1,4 @@
-// The benchmark: times of the four entries beside plain Rust, and of the plan beside a scan of single steps, growth, and stack. bench/run builds and
+// The benchmark: times of the five entries beside plain Rust, and of the plan beside a scan of single steps, growth, and stack. bench/run builds and
 // starts it, with the stack limits as arguments (NAME BYTES ...). docs/FORMAT.md has the entries.
 mod families;
 mod library;
@@ -22,6 +22,8 @@ const ROWS: [(Entry, u32, &str); 6] = [
     (Entry::Chart, 1, "chart, slack 1"),
     (Entry::Chart, 2, "chart, slack 2"),
 ];
+// Write has no bound to keep to, and a row only for some numbers of steps.
+const WRITE_ROW: [(Entry, u32, &str); 1] = [(Entry::Write, 0, "write")];
 const GROWTH_ROWS: [(Entry, u32, &str); 4] = [ROWS[1], ROWS[3], ROWS[4], ROWS[5]];
 
 // The most work for the tables of the chart, the most for the plan, and a common sheet.
@@ -56,6 +58,12 @@ fn time_cases() -> Vec<Case> {
     sized(256, 64).into_iter().chain(sized(32, 16)).chain([four]).collect()
 }
 
+// Of each number of steps one sheet, as the time does not depend on what is in it.
+fn write_cases() -> Vec<Case> {
+    let four = Case { family: "Four runs".into(), steps: 4, units: 3, sheet: four_runs() };
+    [(256, 64), (32, 16), (16, 16)].map(|(steps, units)| case(Family::Random, steps, units)).into_iter().chain([four]).collect()
+}
+
 fn growth_cases() -> Vec<Case> {
     GROWTH_FAMILIES.iter().flat_map(|&family| GROWTH_SIZES.map(|(steps, units)| case(family, steps, units))).collect()
 }
@@ -84,17 +92,16 @@ fn some_steps(random: &mut Random) -> usize {
     }
 }
 
-// Drawn sheets of any size, sound and then with a changed byte, for the comparison and the stack.
+// Drawn sheets of any size, sound and then with a change, for the comparison and the stack.
 fn check_drawn(checker: &mut Checker) {
     let mut random = Random::new();
     for _ in 0..300 {
         let family = Family::ALL[random.below(Family::ALL.len() as u32) as usize];
         let sheet = family.sheet(some_steps(&mut random), 4 + random.below(61), &mut random);
-        for (entry, slack, label) in ROWS {
+        for (entry, slack, label) in ROWS.into_iter().chain(WRITE_ROW) {
             let mut task = task(entry, &sheet, slack);
             checker.compare(&format!("a drawn sheet, {label}"), &task);
-            let place = random.below(task.sheet.len() as u32) as usize;
-            task.sheet[place] ^= 1 << random.below(8);
+            task.damage(&mut random);
             checker.compare(&format!("a damaged sheet, {label}"), &task);
         }
     }
@@ -182,8 +189,9 @@ fn main() {
     let arguments: Vec<String> = std::env::args().skip(1).collect();
     let mut checker = Checker::new();
     check_drawn(&mut checker);
-    let (times, growth) = (time_cases(), growth_cases());
-    let time_rows = checked_rows(&mut checker, &times, &ROWS);
+    let (times, writes, growth) = (time_cases(), write_cases(), growth_cases());
+    let mut time_rows = checked_rows(&mut checker, &times, &ROWS);
+    time_rows.extend(checked_rows(&mut checker, &writes, &WRITE_ROW));
     let growth_rows = checked_rows(&mut checker, &growth, &GROWTH_ROWS);
     print_times(&time_rows);
     print_clearing(&time_rows);

@@ -2,6 +2,8 @@
 use std::arch::asm;
 
 const SIZE: usize = 1 << 16;
+// The last 16 bytes are the caller's, for a word that is not handed over in a register.
+const DEPTH: usize = SIZE - 16;
 const PAINT: u8 = 0xa5;
 
 #[repr(align(16))]
@@ -16,13 +18,14 @@ impl Painted {
         Painted { region: Box::new(Region([0; SIZE])) }
     }
 
-    // Calls a function of up to six words. Gives its result registers, and the bytes from the stack pointer before the call down to the lowest
-    // changed byte: the return address is among them.
+    // Calls a function of up to seven words, the last of which goes over the stack. Gives its result registers, and the bytes from the stack pointer
+    // before the call down to the lowest changed byte: the return address is among them.
     //
     // Safety: `entry` is a C function that takes these words, and needs far less stack than the region has.
-    pub unsafe fn call(&mut self, entry: usize, words: [usize; 6]) -> ([u64; 2], usize) {
+    pub unsafe fn call(&mut self, entry: usize, words: [usize; 7]) -> ([u64; 2], usize) {
         self.region.0.fill(PAINT);
-        let top = self.region.0.as_mut_ptr() as usize + SIZE;
+        self.region.0[DEPTH..DEPTH + 8].copy_from_slice(&words[6].to_ne_bytes());
+        let top = self.region.0.as_mut_ptr() as usize + DEPTH;
         let (rax, rdx): (u64, u64);
         // r12 and r13 outlive the call: r12 holds the stack pointer of the caller meanwhile
         asm!(
@@ -40,8 +43,8 @@ impl Painted {
             out("rax") rax,
             clobber_abi("C"),
         );
-        let untouched = self.region.0.iter().position(|&byte| byte != PAINT).unwrap_or(SIZE);
+        let untouched = self.region.0[..DEPTH].iter().position(|&byte| byte != PAINT).unwrap_or(DEPTH);
         assert!(untouched > 0, "the painted stack is too small");
-        ([rax, rdx], SIZE - untouched)
+        ([rax, rdx], DEPTH - untouched)
     }
 }

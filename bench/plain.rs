@@ -1,7 +1,7 @@
-// The four entries in plain Rust: the same checks, walks, choices and replies as the library, for comparison. docs/FORMAT.md has the sheet,
+// The five entries in plain Rust: the same checks, walks, choices and replies as the library, for comparison. docs/FORMAT.md has the sheet,
 // the refusals and the planner. The chart is in plain_chart.rs; it uses the columns of the plan. scan.rs has another way to make a plan.
 #![forbid(unsafe_code)]
-use crate::library::{Reply, Step, StepsReply, STEPS};
+use crate::library::{Reply, Step, StepsReply, Written, STEPS};
 use crate::plain_chart;
 
 pub struct Refusal(u32, u32);
@@ -385,6 +385,39 @@ fn chart_reply(sheet: &[u8], on: &mut [u64], off: &mut [u64]) -> Result<Reply, R
     Ok(Reply { total, ..Default::default() })
 }
 
+// The sheet of these steps, into the first bytes of the output.
+fn written(units: u8, bound: u16, start: u64, steps: &[Step], out: &mut [u8]) -> Result<Written, Refusal> {
+    let n = steps.len();
+    if units == 0 || units > 64 || has_unit_from(start, units as u32) || n > STEPS {
+        return Err(Refusal(11, 0));
+    }
+    let length = 24 * (n + 1);
+    if out.len() < length {
+        return Err(Refusal(12, length as u32));
+    }
+    let (header, records) = out[..length].split_at_mut(24);
+    header[0..4].copy_from_slice(b"WARM");
+    header[4] = 1;
+    header[5] = units;
+    header[6..8].copy_from_slice(&(n as u16).to_le_bytes());
+    header[8..10].copy_from_slice(&((n > 0) as u16).to_le_bytes());
+    header[10..12].copy_from_slice(&bound.to_le_bytes());
+    header[12..16].fill(0);
+    header[16..24].copy_from_slice(&start.to_le_bytes());
+    // by its place: a walk along pairs of records and steps takes about twice the time
+    for (i, step) in steps.iter().enumerate() {
+        let record = &mut records[24 * i..24 * i + 24];
+        let next = if i + 1 < n { i as u16 + 2 } else { 0 };
+        record[0..8].copy_from_slice(&step.lower.to_le_bytes());
+        record[8..16].copy_from_slice(&step.upper.to_le_bytes());
+        record[16] = step.least;
+        record[17] = step.greatest;
+        record[18..20].copy_from_slice(&next.to_le_bytes());
+        record[20..24].copy_from_slice(&step.tag.to_le_bytes());
+    }
+    Ok(Written { length: length as u32, ..Default::default() })
+}
+
 pub fn refused(Refusal(refusal, place): Refusal) -> Reply {
     Reply { refusal, place, ..Default::default() }
 }
@@ -407,4 +440,9 @@ pub fn verdict(sheet: &[u8], plan: &[u64]) -> Reply {
 #[inline(never)]
 pub fn chart(sheet: &[u8], on: &mut [u64], off: &mut [u64]) -> Reply {
     chart_reply(sheet, on, off).unwrap_or_else(refused)
+}
+
+#[inline(never)]
+pub fn write(units: u8, bound: u16, start: u64, steps: &[Step], out: &mut [u8]) -> Written {
+    written(units, bound, start, steps, out).unwrap_or_else(|Refusal(refusal, place)| Written { refusal, place, ..Default::default() })
 }

@@ -1,6 +1,6 @@
 // One measured call: an entry with its inputs, made to the library, to plain Rust, to the scan, or to the library on a painted stack.
-use crate::families::set_bound;
-use crate::library::{self, Reply, Step, StepsReply, STEPS};
+use crate::families::{set_bound, Random};
+use crate::library::{self, Reply, Step, StepsReply, Written, BYTES, STEPS};
 use crate::painted::Painted;
 use crate::plain;
 use crate::scan;
@@ -11,14 +11,25 @@ pub enum Entry {
     Plan,
     Verdict,
     Chart,
+    Write,
 }
 
 impl Entry {
-    pub const ALL: [Entry; 4] = [Entry::Steps, Entry::Plan, Entry::Verdict, Entry::Chart];
+    pub const ALL: [Entry; 5] = [Entry::Steps, Entry::Plan, Entry::Verdict, Entry::Chart, Entry::Write];
 
     pub fn name(self) -> &'static str {
-        ["warm_steps", "warm_plan", "warm_verdict", "warm_chart"][self as usize]
+        ["warm_steps", "warm_plan", "warm_verdict", "warm_chart", "warm_write"][self as usize]
     }
+}
+
+// What a sheet is written from, and the bytes of the output that are lent.
+#[derive(Debug)]
+pub struct Handed {
+    pub units: u8,
+    pub bound: u16,
+    pub start: u64,
+    pub steps: Vec<Step>,
+    pub places: usize,
 }
 
 #[derive(Debug)]
@@ -27,6 +38,8 @@ pub struct Task {
     pub sheet: Vec<u8>,
     // what the verdict is handed
     pub plan: Vec<u64>,
+    // what write is handed
+    pub handed: Handed,
 }
 
 // The lent outputs and the reply. They are not cleared between calls.
@@ -35,8 +48,10 @@ pub struct Outputs {
     list: [Step; STEPS],
     first: [u64; STEPS],
     second: [u64; STEPS],
+    sheet: [u8; BYTES],
     steps_reply: StepsReply,
     reply: Reply,
+    written: Written,
 }
 
 impl Outputs {
@@ -45,8 +60,10 @@ impl Outputs {
             list: [Step::default(); STEPS],
             first: [0; STEPS],
             second: [0; STEPS],
+            sheet: [0; BYTES],
             steps_reply: StepsReply::default(),
             reply: Reply::default(),
+            written: Written::default(),
         }
     }
 
@@ -63,6 +80,10 @@ pub fn call_library(task: &Task, out: &mut Outputs) {
         Entry::Plan => out.reply = library::plan(&task.sheet, &mut out.first),
         Entry::Verdict => out.reply = library::verdict(&task.sheet, &task.plan),
         Entry::Chart => out.reply = library::chart(&task.sheet, &mut out.first, &mut out.second),
+        Entry::Write => {
+            let Handed { units, bound, start, ref steps, places } = task.handed;
+            out.written = library::write(units, bound, start, steps, &mut out.sheet[..places]);
+        }
     }
 }
 
@@ -72,6 +93,10 @@ pub fn call_plain(task: &Task, out: &mut Outputs) {
         Entry::Plan => out.reply = plain::plan(&task.sheet, &mut out.first),
         Entry::Verdict => out.reply = plain::verdict(&task.sheet, &task.plan),
         Entry::Chart => out.reply = plain::chart(&task.sheet, &mut out.first, &mut out.second),
+        Entry::Write => {
+            let Handed { units, bound, start, ref steps, places } = task.handed;
+            out.written = plain::write(units, bound, start, steps, &mut out.sheet[..places]);
+        }
     }
 }
 
@@ -89,17 +114,24 @@ pub fn call_painted(task: &Task, out: &mut Outputs, painted: &mut Painted) -> us
     let (entry, words) = match task.entry {
         Entry::Steps => {
             let reply = &mut out.steps_reply as *mut StepsReply as usize;
-            (library::warm_steps as *const () as usize, [reply, sheet, len, out.list.as_mut_ptr() as usize, STEPS, 0])
+            (library::warm_steps as *const () as usize, [reply, sheet, len, out.list.as_mut_ptr() as usize, STEPS, 0, 0])
         }
-        Entry::Plan => (library::warm_plan as *const () as usize, [sheet, len, first, STEPS, 0, 0]),
-        Entry::Verdict => (library::warm_verdict as *const () as usize, [sheet, len, task.plan.as_ptr() as usize, task.plan.len(), 0, 0]),
-        Entry::Chart => (library::warm_chart as *const () as usize, [sheet, len, first, STEPS, second, STEPS]),
+        Entry::Plan => (library::warm_plan as *const () as usize, [sheet, len, first, STEPS, 0, 0, 0]),
+        Entry::Verdict => (library::warm_verdict as *const () as usize, [sheet, len, task.plan.as_ptr() as usize, task.plan.len(), 0, 0, 0]),
+        Entry::Chart => (library::warm_chart as *const () as usize, [sheet, len, first, STEPS, second, STEPS, 0]),
+        Entry::Write => {
+            let Handed { units, bound, start, ref steps, places } = task.handed;
+            let (from, to) = (steps.as_ptr() as usize, out.sheet.as_mut_ptr() as usize);
+            (library::warm_write as *const () as usize, [units as usize, bound as usize, start as usize, from, steps.len(), to, places])
+        }
     };
     let (told, depth) = unsafe { painted.call(entry, words) };
-    if task.entry != Entry::Steps {
-        let half = |i: usize| (told[i] as u32, (told[i] >> 32) as u32);
-        let ((refusal, place), (total, accepted)) = (half(0), half(1));
-        out.reply = Reply { refusal, place, total, accepted };
+    let half = |i: usize| (told[i] as u32, (told[i] >> 32) as u32);
+    let ((refusal, place), (third, fourth)) = (half(0), half(1));
+    match task.entry {
+        Entry::Steps => (),
+        Entry::Write => out.written = Written { refusal, place, length: third, reserved: fourth },
+        _ => out.reply = Reply { refusal, place, total: third, accepted: fourth },
     }
     depth
 }
@@ -120,5 +152,32 @@ pub fn task(entry: Entry, sheet: &[u8], slack: u32) -> Task {
     let (plan, fewest) = best_plan(sheet);
     let mut sheet = sheet.to_vec();
     set_bound(&mut sheet, fewest + slack);
-    Task { entry, sheet, plan }
+    let handed = handed(&sheet);
+    Task { entry, sheet, plan, handed }
+}
+
+// What a sheet says, as the library reads it, with an output that is as long as a sheet can be.
+fn handed(sheet: &[u8]) -> Handed {
+    let mut steps = vec![Step::default(); STEPS];
+    let said = library::steps(sheet, &mut steps);
+    assert_eq!(said.refusal, 0, "a made sheet is refused");
+    steps.truncate(said.steps as usize);
+    Handed { units: said.units as u8, bound: said.bound as u16, start: said.start, steps, places: BYTES }
+}
+
+impl Task {
+    // Changes a byte of the sheet, or one of the numbers that write is handed.
+    pub fn damage(&mut self, random: &mut Random) {
+        let (handed, bit) = (&mut self.handed, random.below(64));
+        match (self.entry, random.below(4)) {
+            (Entry::Write, 0) => handed.units ^= 1 << (bit % 8),
+            (Entry::Write, 1) => handed.start ^= 1 << bit,
+            (Entry::Write, 2) => handed.steps.resize(STEPS + (bit % 2) as usize, Step::default()),
+            (Entry::Write, _) => handed.places = random.below(BYTES as u32 + 1) as usize,
+            _ => {
+                let place = random.below(self.sheet.len() as u32) as usize;
+                self.sheet[place] ^= 1 << (bit % 8);
+            }
+        }
+    }
 }

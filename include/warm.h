@@ -13,8 +13,8 @@
  *            17 the greatest number of units on, 18 to 19 the number of the next record (0 at the end), 20 to 23 a job tag, any value
  *
  * Records have the numbers 1 to r. The steps are the first record, its next one, and so on; a record that is not reached may hold anything.
- * docs/FORMAT.md says all this at more length. No call needs a sheet that was checked before: any bytes of any length get a full reply or one
- * refusal.
+ * docs/FORMAT.md says all this at more length. warm_write makes a sheet from steps. No call needs a sheet that was checked before: any bytes of any
+ * length get a full reply or one refusal.
  *
  * A set is feasible in a step if it includes the lower set, lies within the upper set, and has a size from the least to the greatest number. A plan
  * has one word for each step: the set of units that are on. It is feasible if the set of every step is. Its warm-ups in a step are the units that
@@ -24,28 +24,31 @@
  * A reply whose field `refusal` is 0 is a full reply. Otherwise `refusal` is a number of this table, `place` says where or how many, every other
  * field is 0, and every buffer that was lent is exactly as it came.
  *
- *   refusal  cause                                                                      place
- *   1        the sheet is shorter than 24 or longer than 6,168 bytes                    0
- *   2        the letters are not WARM                                                   byte 0
- *   2        the edition is not 1                                                       byte 4
- *   3        the number of units is not 1 to 64                                         byte 5
- *   3        there are more than 256 records                                            byte 6
- *   3        bytes 12 to 15 are not zero                                                byte 12
- *   3        the start set has a unit that the sheet has not                            byte 16
- *   3        the length is not that of the header and the records                       byte 24
- *   4        the number of the first or the next record is above the number of records  record that holds it, 0 for the header
- *   5        the next record is already on the chain                                    record that holds its number
- *   6        the upper set has a unit that the sheet has not                            step, from 1
- *   7        no set of units is feasible in the step                                    step, from 1
- *   8        an output has fewer places than there are steps                            count of the steps
- *   9        the bound is below the fewest warm-ups                                     count of those warm-ups
- *   10       the plan has more or fewer words than there are steps                      count of the steps
+ *   refusal  cause                                                                                       place
+ *   1        the sheet is shorter than 24 or longer than 6,168 bytes                                     0
+ *   2        the letters are not WARM                                                                    byte 0
+ *   2        the edition is not 1                                                                        byte 4
+ *   3        the number of units is not 1 to 64                                                          byte 5
+ *   3        there are more than 256 records                                                             byte 6
+ *   3        bytes 12 to 15 are not zero                                                                 byte 12
+ *   3        the start set has a unit that the sheet has not                                             byte 16
+ *   3        the length is not that of the header and the records                                        byte 24
+ *   4        the number of the first or the next record is above the number of records                   record that holds it, 0 for the header
+ *   5        the next record is already on the chain                                                     record that holds its number
+ *   6        the upper set has a unit that the sheet has not                                             step, from 1
+ *   7        no set of units is feasible in the step                                                     step, from 1
+ *   8        an output has fewer places than there are steps                                             count of the steps
+ *   9        the bound is below the fewest warm-ups                                                      count of those warm-ups
+ *   10       the plan has more or fewer words than there are steps                                       count of the steps
+ *   11       the number of units, the start set or the number of steps is outside the limits of a sheet  0
+ *   12       the output is shorter than the sheet                                                        count of the bytes of the sheet
  *
  * The first cause in this order is the one that is given: of 4 and 5 that of the earlier link, and of 6 and 7 that of the earlier step. Below, each
  * entry says which it gives.
  *
  * To learn the number of steps n, call warm_steps with no list (NULL and 0): it gives refusal 8 with n as its place, or a full reply if n is 0, or
- * one of 1 to 7 if the sheet is refused.
+ * one of 1 to 7 if the sheet is refused. To learn the length of a sheet before it is written, call warm_write with no output (NULL and 0): it gives
+ * refusal 12 with the length as its place, or 11.
  *
  * No call allocates, blocks, prints or keeps state: threads may call at will. Buffers are aligned for their type and do not overlap. A pointer
  * may be NULL where its length is 0. The archive is for x86-64 and the calling convention of Linux (System V), built for any such processor, and
@@ -94,6 +97,7 @@ extern "C" {
 #define WARM_STACK_PLAN 11264
 #define WARM_STACK_CHART 32768
 #define WARM_STACK_VERDICT 9216
+#define WARM_STACK_WRITE 128
 
 /* The numbers of the table above, by name. Later versions add to them. */
 typedef enum {
@@ -106,7 +110,9 @@ typedef enum {
     WARM_REFUSAL_NO_SET = 7,
     WARM_REFUSAL_SHORT_OUTPUT = 8,
     WARM_REFUSAL_BOUND = 9,
-    WARM_REFUSAL_PLAN_LENGTH = 10
+    WARM_REFUSAL_PLAN_LENGTH = 10,
+    WARM_REFUSAL_LIMITS = 11,
+    WARM_REFUSAL_NO_ROOM = 12
 } warm_refusal;
 
 /* What the place of a refusal is. Later versions may add to these. */
@@ -119,7 +125,7 @@ typedef enum {
     WARM_PLACE_COUNT    /* a count, of what the table says */
 } warm_place;
 
-/* One step: unit u has weight 2^u in a set. Of the padding nothing is said. */
+/* One step: unit u has weight 2^u in a set. The padding plays no part, and nothing is said of what it holds. */
 typedef struct {
     uint64_t lower;   /* the units that must be on */
     uint64_t upper;   /* the units that may be on */
@@ -177,6 +183,24 @@ WARM_CHECKED warm_reply warm_chart(
  */
 WARM_CHECKED warm_reply warm_verdict(const uint8_t *sheet, size_t sheet_len, const uint64_t *plan, size_t plan_len) WARM_NOEXCEPT;
 
+typedef struct {
+    uint32_t refusal;
+    uint32_t place;
+    uint32_t length;   /* the bytes of the sheet */
+    uint32_t reserved; /* 0 */
+} warm_written;
+
+/*
+ * The sheet of these units, this bound, this start set and these steps, into the first places of a byte output: 24 for the header and 24 for each
+ * step. Its records are the steps in their order, tags included. Places after them are left as they are, and so is the whole output on a refusal.
+ * An output of WARM_BYTES places is always enough. There must be 1 to 64 units, no unit from that number up in the start set, and at most 256 steps,
+ * or it is refusal 11. The steps themselves are not tested: the entries above may refuse the sheet with 6 or 7. If they do not, warm_steps gives
+ * back what it was written from.
+ * Takes one pass over the steps. Refusals: 11 and 12.
+ */
+WARM_CHECKED warm_written warm_write(uint8_t units, uint16_t bound, uint64_t start, const warm_step *steps, size_t steps_len, uint8_t *sheet,
+    size_t sheet_len) WARM_NOEXCEPT;
+
 /* The cause of a refusal in words, by its number and its place, as the table above has it. Never NULL: other numbers have words of their own. */
 static inline const char *warm_cause(uint32_t refusal, uint32_t place)
 {
@@ -223,6 +247,10 @@ static inline const char *warm_cause(uint32_t refusal, uint32_t place)
         return "the bound is below the fewest warm-ups";
     case WARM_REFUSAL_PLAN_LENGTH:
         return "the plan has more or fewer words than there are steps";
+    case WARM_REFUSAL_LIMITS:
+        return "the number of units, the start set or the number of steps is outside the limits of a sheet";
+    case WARM_REFUSAL_NO_ROOM:
+        return "the output is shorter than the sheet";
     default:
         break;
     }
@@ -248,6 +276,10 @@ static inline warm_place warm_place_of(uint32_t refusal)
     case WARM_REFUSAL_BOUND:
     case WARM_REFUSAL_PLAN_LENGTH:
         return WARM_PLACE_COUNT;
+    case WARM_REFUSAL_LIMITS:
+        return WARM_PLACE_WHOLE;
+    case WARM_REFUSAL_NO_ROOM:
+        return WARM_PLACE_COUNT;
     default:
         break;
     }
@@ -272,6 +304,9 @@ WARM_ASSERT(offsetof(warm_steps_reply, start) == 24, "the fields of warm_steps_r
 WARM_ASSERT(sizeof(warm_reply) == 16, "warm_reply has 16 bytes");
 WARM_ASSERT(offsetof(warm_reply, place) == 4 && offsetof(warm_reply, total) == 8, "the fields of warm_reply");
 WARM_ASSERT(offsetof(warm_reply, accepted) == 12, "the fields of warm_reply");
+WARM_ASSERT(sizeof(warm_written) == 16, "warm_written has 16 bytes");
+WARM_ASSERT(offsetof(warm_written, place) == 4 && offsetof(warm_written, length) == 8, "the fields of warm_written");
+WARM_ASSERT(offsetof(warm_written, reserved) == 12, "the fields of warm_written");
 #undef WARM_ASSERT
 #endif
 #undef WARM_CHECKED

@@ -1,8 +1,9 @@
 /*
- * How deep a call of each entry goes on the stack, for the sheet on standard input. Each call runs in a process of its own, in which it is the
- * first that needs memcpy or memset, on a stack that was painted before. The bytes count from the stack pointer before the call, so the return
- * address is among them. Linked with -z lazy, the dynamic linker binds memcpy and memset in that call, and its own frames count too. Prints each
- * depth beside the limit of include/warm.h. Ends with status 1 if one is above it, and with 2 if a call gives no full reply.
+ * How deep a call of each entry goes on the stack, for the sheet on standard input, and of warm_write for as many steps as a sheet can have. Each
+ * call runs in a process of its own, in which it is the first that needs memcpy or memset, on a stack that was painted before. The bytes count from
+ * the stack pointer before the call, so the return address is among them. Linked with -z lazy, the dynamic linker binds memcpy and memset in that
+ * call, and its own frames count too. Prints each depth beside the limit of include/warm.h. Ends with status 1 if one is above it, and with 2 if a
+ * call gives no full reply.
  */
 #define _DEFAULT_SOURCE
 #include "warm.h"
@@ -11,9 +12,10 @@
 #include <sys/wait.h>
 #include <unistd.h>
 
-enum { SIZE = 1 << 16, PAINT = 0xa5 };
+/* the last 16 bytes of the stack are the caller's, for a word that is not handed over in a register */
+enum { SIZE = 1 << 16, DEPTH = SIZE - 16, PAINT = 0xa5 };
 
-static uint8_t sheet[WARM_BYTES + 1];
+static uint8_t sheet[WARM_BYTES + 1], written[WARM_BYTES];
 static warm_step steps[WARM_STEPS];
 static warm_steps_reply summary;
 static uint64_t sets[WARM_STEPS], on[WARM_STEPS], off[WARM_STEPS];
@@ -22,29 +24,31 @@ static uint64_t first_word;
 
 typedef void any_function(void);
 
-/* Calls a function with six words on the painted stack: the bytes of it that changed, from the top down to the lowest. Keeps what it returns in
-   its first register. */
+/* Calls a function with six words in registers and a seventh on the painted stack: the bytes of it that changed, from below the seventh word down to
+   the lowest. Keeps what the function returns in its first register. */
 static size_t depth_of(any_function *entry, const uintptr_t *words)
 {
     uintptr_t rdi = words[0], rsi = words[1], rdx = words[2], rcx = words[3], rax;
     register uintptr_t r8 __asm__("r8") = words[4];
     register uintptr_t r9 __asm__("r9") = words[5];
     /* r12 and r13 outlive the call: r12 holds the stack pointer of the caller meanwhile */
-    register uintptr_t top __asm__("r12") = (uintptr_t)region + SIZE;
+    register uintptr_t top __asm__("r12") = (uintptr_t)region + DEPTH;
     register any_function *called __asm__("r13") = entry;
     size_t untouched = 0;
 
-    for (size_t i = 0; i < SIZE; i++)
+    for (size_t i = 0; i < DEPTH; i++)
         region[i] = PAINT;
+    for (size_t i = 0; i < 8; i++)
+        region[DEPTH + i] = (uint8_t)(words[6] >> 8 * i);
     __asm__ volatile("xchg %%rsp, %%r12\n\tcall *%%r13\n\tmov %%r12, %%rsp"
                      : "+D"(rdi), "+S"(rsi), "+d"(rdx), "+c"(rcx), "=a"(rax), "+r"(r8), "+r"(r9), "+r"(top)
                      : "r"(called)
                      : "r10", "r11", "cc", "memory", "xmm0", "xmm1", "xmm2", "xmm3", "xmm4", "xmm5", "xmm6", "xmm7", "xmm8", "xmm9", "xmm10",
                      "xmm11", "xmm12", "xmm13", "xmm14", "xmm15");
     first_word = rax;
-    while (untouched < SIZE && region[untouched] == PAINT)
+    while (untouched < DEPTH && region[untouched] == PAINT)
         untouched++;
-    return SIZE - untouched;
+    return DEPTH - untouched;
 }
 
 /* Makes, measures and prints a call in a process of its own: 0, or 1 if it goes deeper than the limit, or 2 if it gives no full reply. */
@@ -69,17 +73,22 @@ int main(void)
 {
     ssize_t got = read(STDIN_FILENO, sheet, sizeof sheet);
     uintptr_t length = got < 0 ? 0 : (uintptr_t)got;
-    const uintptr_t for_steps[] = { (uintptr_t)&summary, (uintptr_t)sheet, length, (uintptr_t)steps, WARM_STEPS, 0 };
-    const uintptr_t for_plan[] = { (uintptr_t)sheet, length, (uintptr_t)sets, WARM_STEPS, 0, 0 };
-    const uintptr_t for_chart[] = { (uintptr_t)sheet, length, (uintptr_t)on, WARM_STEPS, (uintptr_t)off, WARM_STEPS };
+    const uintptr_t for_steps[] = { (uintptr_t)&summary, (uintptr_t)sheet, length, (uintptr_t)steps, WARM_STEPS, 0, 0 };
+    const uintptr_t for_plan[] = { (uintptr_t)sheet, length, (uintptr_t)sets, WARM_STEPS, 0, 0, 0 };
+    const uintptr_t for_chart[] = { (uintptr_t)sheet, length, (uintptr_t)on, WARM_STEPS, (uintptr_t)off, WARM_STEPS, 0 };
+    /* a caller may leave anything in the upper half of a register that holds a smaller number */
+    const uintptr_t anything = (uintptr_t)0xa5a5a5a5 << 32;
+    const uintptr_t for_write[]
+        = { WARM_UNITS | anything, anything, UINT64_MAX, (uintptr_t)steps, WARM_STEPS, (uintptr_t)written, WARM_BYTES };
     const int found[] = {
         measure("warm_steps", (any_function *)warm_steps, WARM_STACK_STEPS, for_steps),
         measure("warm_plan", (any_function *)warm_plan, WARM_STACK_PLAN, for_plan),
         measure("warm_chart", (any_function *)warm_chart, WARM_STACK_CHART, for_chart),
         measure("warm_verdict", (any_function *)warm_verdict, WARM_STACK_VERDICT, for_plan),
+        measure("warm_write", (any_function *)warm_write, WARM_STACK_WRITE, for_write),
     };
     int worst = 0;
-    for (size_t i = 0; i < 4; i++)
+    for (size_t i = 0; i < sizeof found / sizeof *found; i++)
         worst = found[i] > worst ? found[i] : worst;
     return worst;
 }

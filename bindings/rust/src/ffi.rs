@@ -22,6 +22,14 @@ pub struct Reply {
     pub accepted: u32,
 }
 
+#[repr(C)]
+pub struct Written {
+    pub refusal: u32,
+    pub place: u32,
+    pub length: u32,
+    pub reserved: u32,
+}
+
 extern "C" {
     pub fn warm_steps(sheet: *const u8, sheet_len: usize, steps: *mut Step, steps_len: usize) -> StepsReply;
     pub fn warm_plan(sheet: *const u8, sheet_len: usize, plan: *mut u64, plan_len: usize) -> Reply;
@@ -34,6 +42,15 @@ extern "C" {
         off_len: usize,
     ) -> Reply;
     pub fn warm_verdict(sheet: *const u8, sheet_len: usize, plan: *const u64, plan_len: usize) -> Reply;
+    pub fn warm_write(
+        units: u8,
+        bound: u16,
+        start: u64,
+        steps: *const Step,
+        steps_len: usize,
+        sheet: *mut u8,
+        sheet_len: usize,
+    ) -> Written;
 }
 
 // The layouts that include/warm.h asserts for C.
@@ -51,4 +68,8 @@ const _: () = {
     assert!(size_of::<Reply>() == 16 && align_of::<Reply>() == 4);
     assert!(offset_of!(Reply, refusal) == 0 && offset_of!(Reply, place) == 4);
     assert!(offset_of!(Reply, total) == 8 && offset_of!(Reply, accepted) == 12);
+
+    assert!(size_of::<Written>() == 16 && align_of::<Written>() == 4);
+    assert!(offset_of!(Written, refusal) == 0 && offset_of!(Written, place) == 4);
+    assert!(offset_of!(Written, length) == 8 && offset_of!(Written, reserved) == 12);
 };

@@ -1,7 +1,7 @@
 //! Plans which units of a bench are on in each step of a test campaign, so that as few as possible have to be warmed up.
 //!
 //! The work is done by a library that is proved to meet its definition for any bytes: a call gives a full reply, or one exact refusal.
-//! This crate wraps its four entries in safe functions over slices.
+//! This crate wraps its five entries in safe functions over slices.
 //!
 //! | Function | What it gives |
 //! |---|---|
@@ -10,6 +10,7 @@
 //! | [`plan`] | a plan with the fewest warm-ups, one set for each step, and its total |
 //! | [`chart`] | two sets for each step: the units that can be on, and those that can be off |
 //! | [`verdict`] | whether a plan made elsewhere meets the sheet, and its total |
+//! | [`write()`] | the sheet of a number of units, a bound, a start set and steps |
 //!
 //! # Units, sets, plans
 //!
@@ -47,15 +48,16 @@
 //!
 //! # Replies, refusals and buffers
 //!
-//! Bytes need no check beforehand. A sheet that cannot be used, or an output that is too short, gets [`Error::Refused`]: the first cause
-//! that holds, a [`Refusal`], and its [`Place`]. A refusal leaves every output exactly as it was.
+//! Bytes need no check beforehand. A sheet that cannot be used, one that cannot be written, or an output that is too short gets
+//! [`Error::Refused`]: the first cause that holds, a [`Refusal`], and its [`Place`]. A refusal leaves every output exactly as it was.
 //!
 //! A reply fills the first n places of each output, for n steps, and lends them back; it changes no place after them. An output of
 //! [`STEPS`] places is always enough; one that is too short is refused with the number that it takes. [`plan`] and [`chart`] read n by a call
-//! of [`step_count`], which takes less time than a plan. With the feature `alloc`, `steps_vec`, `plan_vec` and `chart_vec` need no output, and
-//! give what they fill in a `Vec`.
+//! of [`step_count`], which takes less time than a plan. [`write()`] fills the first 24 · (n + 1) bytes of its output, and one of [`BYTES`]
+//! is always enough. With the feature `alloc`, `steps_vec`, `plan_vec`, `chart_vec` and `write_vec` need no output, and give what they fill
+//! in a `Vec`.
 //!
-//! No call but those three allocates, and none blocks, prints or keeps state, so threads may call at will. A call takes less than a
+//! No call but those four allocates, and none blocks, prints or keeps state, so threads may call at will. A call takes less than a
 //! millisecond on the largest sheets. The library needs at most 32,768 bytes of stack for a chart, and at most 11,264 for all else; what these
 //! limits leave out, the C header says under Stack.
 //!
@@ -67,9 +69,14 @@
 //!
 //! # Example
 //!
+//! Three units, of which at most two may be on, and four steps that need unit 0, unit 1, unit 2 and unit 0 again. The bound is three
+//! warm-ups, and nothing is on at the start.
+//!
 //! ```
-//! let mut sets = [0; warm::STEPS];
-//! let plan = warm::plan(&warm::FOUR_RUNS, &mut sets)?;
+//! let steps = [0b001, 0b010, 0b100, 0b001].map(|lower| warm::Step::new(lower, 0b111, 0, 2, 0));
+//! let (mut bytes, mut sets) = ([0; warm::BYTES], [0; warm::STEPS]);
+//! let sheet = warm::write(3, 3, 0, &steps, &mut bytes)?;
+//! let plan = warm::plan(sheet, &mut sets)?;
 //! assert_eq!(plan.sets, [0b001, 0b011, 0b101, 0b101]);
 //! assert_eq!(plan.total, 3);
 //! # Ok::<(), warm::Error>(())
@@ -88,7 +95,7 @@ mod owned;
 mod refusal;
 
 #[cfg(feature = "alloc")]
-pub use owned::{chart_vec, plan_vec, steps_vec};
+pub use owned::{chart_vec, plan_vec, steps_vec, write_vec};
 pub use refusal::{Error, Place, Refusal, UnknownRefusal};
 
 /// The version of the library's C interface that this crate is written for.
@@ -100,7 +107,7 @@ pub const UNITS: usize = 64;
 /// The most steps that a sheet can have: outputs of this many places are always enough.
 pub const STEPS: usize = 256;
 
-/// The most bytes that a sheet can have.
+/// The most bytes that a sheet can have: an output of this many is always enough.
 pub const BYTES: usize = 24 * (STEPS + 1);
 
 /// A sheet to try: three units, of which at most two may be on, and four steps that need unit 0, unit 1, unit 2 and unit 0 again. The bound
@@ -299,6 +306,34 @@ pub fn verdict(sheet: &[u8], plan: &[u64]) -> Result<Verdict, Error> {
     let reply = unsafe { ffi::warm_verdict(sheet.as_ptr(), sheet.len(), plan.as_ptr(), plan.len()) };
     full(reply.refusal, reply.place)?;
     Ok(Verdict { accepted: reply.accepted != 0, total: reply.total })
+}
+
+/// The sheet of so many units, with this bound, this start set and these steps, into the first bytes of `output`. They are lent back.
+///
+/// There must be 1 to 64 units, no unit from that number up in the start set, and at most 256 steps. The records are the steps in order, tags
+/// included. The steps themselves are not tested: the other functions may refuse the sheet with 6 or 7. If they do not, [`steps`] gives back
+/// what it was written from.
+///
+/// ```
+/// let steps = [0b001, 0b010, 0b100, 0b001].map(|lower| warm::Step::new(lower, 0b111, 0, 2, 0));
+/// let mut bytes = [0; warm::BYTES];
+/// assert_eq!(warm::write(3, 3, 0, &steps, &mut bytes)?, warm::FOUR_RUNS);
+///
+/// let refused = warm::write(3, 3, 0, &steps, &mut []).unwrap_err();
+/// assert_eq!(refused, warm::Error::Refused { refusal: warm::Refusal::NoRoom, place: warm::Place::Count(120) });
+/// # Ok::<(), warm::Error>(())
+/// ```
+///
+/// # Errors
+///
+/// Refusals 11 and 12; the output is then as it was.
+pub fn write<'a>(units: u8, bound: u16, start: u64, steps: &[Step], output: &'a mut [u8]) -> Result<&'a [u8], Error> {
+    // SAFETY: each pointer and length is that of a live slice, the one that is written to is lent for writing, and the library keeps
+    // neither.
+    let reply =
+        unsafe { ffi::warm_write(units, bound, start, steps.as_ptr(), steps.len(), output.as_mut_ptr(), output.len()) };
+    full(reply.refusal, reply.place)?;
+    Ok(first(output, reply.length as usize))
 }
 
 /// A full reply has refusal 0.

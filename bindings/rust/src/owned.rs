@@ -1,6 +1,6 @@
-//! The entries with outputs of their own, of exactly as many places as there are steps.
+//! The entries with outputs of their own, of exactly as many places as they fill.
 
-use crate::{chart, plan, step_count, steps, Campaign, Chart, Error, Plan, Step};
+use crate::{chart, plan, step_count, steps, write, Campaign, Chart, Error, Plan, Step, STEPS};
 use alloc::vec;
 use alloc::vec::Vec;
 
@@ -42,4 +42,22 @@ pub fn chart_vec(sheet: &[u8]) -> Result<Chart<Vec<u64>>, Error> {
     let (mut on, mut off) = (vec![0; count], vec![0; count]);
     let total = chart(sheet, &mut on, &mut off)?.total;
     Ok(Chart { on, off, total })
+}
+
+/// [`write()`] into an output of its own.
+///
+/// ```
+/// let steps = [0b001, 0b010, 0b100, 0b001].map(|lower| warm::Step::new(lower, 0b111, 0, 2, 0));
+/// assert_eq!(warm::write_vec(3, 3, 0, &steps)?, warm::FOUR_RUNS);
+/// # Ok::<(), warm::Error>(())
+/// ```
+///
+/// # Errors
+///
+/// Refusal 11.
+pub fn write_vec(units: u8, bound: u16, start: u64, steps: &[Step]) -> Result<Vec<u8>, Error> {
+    // More steps than a sheet can have are refused whatever the output.
+    let mut sheet = vec![0; 24 * (steps.len().min(STEPS) + 1)];
+    write(units, bound, start, steps, &mut sheet)?;
+    Ok(sheet)
 }

@@ -30,6 +30,10 @@ pub enum Refusal {
     Bound = 9,
     /// 10: the plan has more or fewer words than there are steps. [`Place::Count`]: the steps.
     PlanLength = 10,
+    /// 11: the number of units, the start set or the number of steps is outside the limits of a sheet. [`Place::Whole`].
+    Limits = 11,
+    /// 12: the output is shorter than the sheet. [`Place::Count`]: the bytes of the sheet.
+    NoRoom = 12,
 }
 
 impl Refusal {
@@ -45,6 +49,8 @@ impl Refusal {
         Refusal::ShortOutput,
         Refusal::Bound,
         Refusal::PlanLength,
+        Refusal::Limits,
+        Refusal::NoRoom,
     ];
 
     /// The number of the cause.
@@ -57,11 +63,11 @@ impl Refusal {
     #[must_use]
     pub const fn place(self, number: u32) -> Place {
         match self {
-            Refusal::Length => Place::Whole,
+            Refusal::Length | Refusal::Limits => Place::Whole,
             Refusal::Form | Refusal::Header => Place::Byte(number),
             Refusal::RecordNumber | Refusal::Loop => Place::Record(number),
             Refusal::UpperSet | Refusal::NoSet => Place::Step(number),
-            Refusal::ShortOutput | Refusal::Bound | Refusal::PlanLength => Place::Count(number),
+            Refusal::ShortOutput | Refusal::Bound | Refusal::PlanLength | Refusal::NoRoom => Place::Count(number),
         }
     }
 }
@@ -117,7 +123,7 @@ impl Place {
 #[derive(Clone, Copy, Debug, PartialEq, Eq, Hash)]
 #[non_exhaustive]
 pub enum Error {
-    /// The library refuses the sheet, an output or a plan.
+    /// The library refuses the sheet, what one is to be written from, an output or a plan.
     Refused {
         /// The first cause that holds.
         refusal: Refusal,
@@ -171,6 +177,10 @@ impl Error {
             (Refusal::ShortOutput, _) => "an output has fewer places than there are steps",
             (Refusal::Bound, _) => "the bound is below the fewest warm-ups",
             (Refusal::PlanLength, _) => "the plan has more or fewer words than there are steps",
+            (Refusal::Limits, _) => {
+                "the number of units, the start set or the number of steps is outside the limits of a sheet"
+            }
+            (Refusal::NoRoom, _) => "the output is shorter than the sheet",
             (Refusal::Form | Refusal::Header, _) => UNKNOWN,
         }
     }

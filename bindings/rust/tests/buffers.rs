@@ -83,6 +83,9 @@ fn empty_slices() {
     assert_eq!(warm::chart(&sheet, &mut [], &mut []), Err(short));
     let other_length = Error::Refused { refusal: Refusal::PlanLength, place: Place::Count(4) };
     assert_eq!(warm::verdict(&sheet, &[]), Err(other_length));
+    let no_room = |bytes| Error::Refused { refusal: Refusal::NoRoom, place: Place::Count(bytes) };
+    assert_eq!(warm::write(3, 3, 0, &four_runs().steps, &mut []), Err(no_room(120)));
+    assert_eq!(warm::write(1, 0, 0, &[], &mut []), Err(no_room(24)));
     let none = Error::Refused { refusal: Refusal::Length, place: Place::Whole };
     assert_eq!(warm::steps(&[], &mut []), Err(none));
     assert_eq!(warm::plan(&[], &mut []), Err(none));

@@ -1,5 +1,5 @@
-//! Sheets with faults: directed ones with their numbers and places written by hand, pairs of them, and thousands drawn. All four entries
-//! against the reference. And sheets that differ in job tags and unused records only, which must get the same replies.
+//! Sheets with faults: directed ones with their numbers and places written by hand, pairs of them, and thousands drawn. All four entries that
+//! read a sheet against the reference. And sheets that differ in job tags and unused records only, which must get the same replies.
 
 mod common;
 mod reference;

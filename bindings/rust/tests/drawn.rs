@@ -1,4 +1,5 @@
-//! Drawn sheets that pass the checks, at bounds below, at and above the fewest warm-ups: all four entries against the reference.
+//! Drawn sheets that pass the checks, at bounds below, at and above the fewest warm-ups: all four entries that read a sheet against the
+//! reference.
 
 mod common;
 mod reference;

@@ -43,6 +43,12 @@ fn lines() {
         (Refusal::ShortOutput, 4, "refused 8: an output has fewer places than there are steps (4)"),
         (Refusal::Bound, 3, "refused 9: the bound is below the fewest warm-ups (3)"),
         (Refusal::PlanLength, 4, "refused 10: the plan has more or fewer words than there are steps (4)"),
+        (
+            Refusal::Limits,
+            0,
+            "refused 11: the number of units, the start set or the number of steps is outside the limits of a sheet",
+        ),
+        (Refusal::NoRoom, 120, "refused 12: the output is shorter than the sheet (120)"),
     ];
     for (refusal, number, line) in lines {
         let place = refusal.place(number);
@@ -62,6 +68,8 @@ fn places() {
         (Refusal::Loop, Place::Record(12)),
         (Refusal::NoSet, Place::Step(12)),
         (Refusal::Bound, Place::Count(12)),
+        (Refusal::Limits, Place::Whole),
+        (Refusal::NoRoom, Place::Count(12)),
     ] {
         assert_eq!(refusal.place(12), place);
     }

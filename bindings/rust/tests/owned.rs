@@ -1,4 +1,4 @@
-//! The entries with outputs of their own give what those with lent outputs give, and no refusal 8.
+//! The entries with outputs of their own give what those with lent outputs give, and no refusal 8 or 12.
 
 mod common;
 mod reference;
@@ -6,7 +6,9 @@ mod reference;
 use common::random::Random;
 use common::sheets::{draw, Family};
 use reference::reading::read;
-use warm::{chart, chart_vec, plan, plan_vec, step_count, steps, steps_vec, Error, Step, STEPS};
+use warm::{
+    chart, chart_vec, plan, plan_vec, step_count, steps, steps_vec, write, write_vec, Error, Step, BYTES, STEPS,
+};
 
 fn compare(sheet: &[u8]) -> bool {
     let mut list = [Step::default(); STEPS];
@@ -41,4 +43,22 @@ fn drawn() {
         planned += usize::from(compare(&sheet));
     }
     assert!((500..1900).contains(&planned), "{planned} plans of 2000");
+}
+
+/// Units and start sets within the limits and beyond them, and up to two steps more than a sheet can have.
+#[test]
+fn written() {
+    let mut random = Random::new(62);
+    let mut sheets = 0;
+    for round in 0..2000 {
+        let steps = random.below(if round % 4 == 0 { 259 } else { 12 });
+        let campaign = draw(Family::Any, random.between(1, 64), steps, &mut random);
+        let (units, bound) = (random.pick(&[campaign.units as u8, 64, 65]), random.word() as u16);
+        let mut output = [0; BYTES];
+        let lent = write(units, bound, campaign.start, &campaign.steps, &mut output);
+        let owned = write_vec(units, bound, campaign.start, &campaign.steps);
+        assert_eq!(owned.as_deref(), lent.as_ref().map(|sheet| &sheet[..]));
+        sheets += usize::from(owned.is_ok());
+    }
+    assert!((1000..1500).contains(&sheets), "{sheets} sheets of 2000");
 }

@@ -1,8 +1,9 @@
 //! Calls the library with lent memory that lies inside larger buffers, and compares its reply and all of the buffers with the reference.
 
 use super::random::Random;
+use super::sheets::Campaign;
 use super::tally::Tally;
-use crate::reference::replies::Replies;
+use crate::reference::replies::{write, Replies};
 use crate::reference::{units_below, Reply};
 use std::fmt::Debug;
 use warm::{Error, Step};
@@ -10,37 +11,43 @@ use warm::{Error, Step};
 /// Places of a buffer before and after the ones that are lent.
 const MARGIN: usize = 5;
 
-/// An output inside a larger buffer. No two neighbouring places are alike.
+/// An output inside a larger buffer, from a place on. No two neighbouring places are alike.
 pub struct Output<T> {
+    from: usize,
     before: Vec<T>,
     buffer: Vec<T>,
 }
 
 impl<T: Copy + PartialEq + Debug> Output<T> {
-    fn new(places: usize, value: impl Fn(u64) -> T) -> Output<T> {
+    fn new(from: usize, places: usize, value: impl Fn(u64) -> T) -> Output<T> {
         let buffer: Vec<T> =
-            (1..=places + 2 * MARGIN).map(|i| value((i as u64).wrapping_mul(0xA5C3_96E1_7B2D_84F3))).collect();
-        Output { before: buffer.clone(), buffer }
+            (1..=from + places + MARGIN).map(|i| value((i as u64).wrapping_mul(0xA5C3_96E1_7B2D_84F3))).collect();
+        Output { from, before: buffer.clone(), buffer }
     }
 
     fn lent(&mut self) -> &mut [T] {
         let end = self.buffer.len() - MARGIN;
-        &mut self.buffer[MARGIN..end]
+        &mut self.buffer[self.from..end]
     }
 
     /// The first lent places are as given, and every other place is as it was.
     fn check(mut self, first: &[T], call: &str, sheet: &[u8]) {
-        self.before[MARGIN..MARGIN + first.len()].copy_from_slice(first);
+        self.before[self.from..self.from + first.len()].copy_from_slice(first);
         assert_eq!(self.buffer, self.before, "{call}: the output, for the sheet {}", hex(sheet));
     }
 }
 
 pub fn words(places: usize) -> Output<u64> {
-    Output::new(places, |word| word)
+    Output::new(MARGIN, places, |word| word)
 }
 
 pub fn step_list(places: usize) -> Output<Step> {
-    Output::new(places, |word| Step::new(word, !word, word as u8, (word >> 8) as u8, (word >> 16) as u32))
+    Output::new(MARGIN, places, |word| Step::new(word, !word, word as u8, (word >> 8) as u8, (word >> 16) as u32))
+}
+
+/// Bytes from a place on, so that they can lie at any alignment.
+pub fn bytes(from: usize, places: usize) -> Output<u8> {
+    Output::new(from, places, |word| word as u8)
 }
 
 pub struct Judge {
@@ -53,7 +60,7 @@ impl Judge {
         Judge { tally: Tally::default(), random: Random::new(seed) }
     }
 
-    /// All four entries, with outputs that are long enough, and the verdict on the plan.
+    /// All four entries that read a sheet, with outputs that are long enough, and the verdict on the plan.
     pub fn all(&mut self, sheet: &[u8], expected: &Replies) {
         self.all_but_chart(sheet, expected);
         self.long_enough_chart(sheet, expected);
@@ -137,6 +144,25 @@ impl Judge {
         if let Ok((accepted, _)) = want {
             self.tally.add(if accepted { "accepted" } else { "turned down" }, 1);
         }
+    }
+
+    /// Writes the sheet of a campaign into an output of so many bytes. Gives what the tests' own writer makes of it, or the refusal.
+    pub fn write(&mut self, campaign: &Campaign, places: usize) -> Reply<Vec<u8>> {
+        let Campaign { units, bound, start, steps } = campaign;
+        let made = campaign.bytes();
+        let mut handed_in = step_list(steps.len());
+        handed_in.lent().copy_from_slice(steps);
+        let mut output = bytes(self.random.below(16), places);
+        let got = warm::write(u8::try_from(*units).unwrap(), *bound, *start, handed_in.lent(), output.lent());
+        let got = got.map(<[u8]>::to_vec);
+        let want = write(*units, *start, steps.len(), places).map(|length| made[..length].to_vec());
+        self.compare("write", &made, got, &want);
+        output.check(want.as_deref().unwrap_or(&[]), "write", &made);
+        handed_in.check(steps, "write, the steps", &made);
+        if want.is_ok() {
+            self.tally.add("sheets", 1);
+        }
+        want
     }
 
     /// Runs a call on a sheet inside a larger buffer of garbage, at any alignment. Nothing there may change.

@@ -6,7 +6,7 @@ use std::io::Write;
 #[derive(Default)]
 pub struct Tally(BTreeMap<&'static str, u64>);
 
-const REFUSALS: [&str; 10] = [
+const REFUSALS: [&str; 12] = [
     "refusal 1",
     "refusal 2",
     "refusal 3",
@@ -17,6 +17,8 @@ const REFUSALS: [&str; 10] = [
     "refusal 8",
     "refusal 9",
     "refusal 10",
+    "refusal 11",
+    "refusal 12",
 ];
 
 impl Tally {

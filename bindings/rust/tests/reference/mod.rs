@@ -1,4 +1,5 @@
-//! A second implementation of the four entries, written from docs/FORMAT.md alone, plain and slow.
+//! A second implementation of the entries, written from docs/FORMAT.md alone, plain and slow. The bytes of a sheet are written by the tests'
+//! own `common::sheets`.
 //!
 //! - `reading`: the bytes of a sheet, refusals 1 to 7.
 //! - `support`: the plan that is handed out, FindSupport.

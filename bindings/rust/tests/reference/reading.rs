@@ -82,7 +82,7 @@ fn step(bytes: &[u8], record: usize) -> Step {
 }
 
 /// Refusals 6 and 7.
-fn check_steps(units: usize, steps: &[Step]) -> Reply<()> {
+pub fn check_steps(units: usize, steps: &[Step]) -> Reply<()> {
     for (i, step) in steps.iter().enumerate() {
         let place = i as u32 + 1;
         if step.upper & !units_below(units) != 0 {

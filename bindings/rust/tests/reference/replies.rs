@@ -1,9 +1,9 @@
-//! What the four entries answer to a sheet (docs/FORMAT.md, Refusals and Replies).
+//! What the entries answer (docs/FORMAT.md, Refusals, Writing and Replies).
 
 use super::exact::Exact;
 use super::reading::{read, Sheet};
 use super::support::find_support;
-use super::{feasible, total, Cells, Reply};
+use super::{feasible, total, units_below, Cells, Reply};
 use std::cell::OnceCell;
 use std::rc::Rc;
 
@@ -131,4 +131,16 @@ impl Replies {
     fn campaign(&self) -> &Campaign {
         self.campaign.as_ref().expect("the sheet passes the checks")
     }
+}
+
+/// The length of the sheet of so many units and steps, if it can be written into an output of so many bytes.
+pub fn write(units: usize, start: u64, steps: usize, places: usize) -> Reply<usize> {
+    if units == 0 || units > 64 || start & !units_below(units) != 0 || steps > 256 {
+        return Err((11, 0));
+    }
+    let length = 24 * (steps + 1);
+    if places < length {
+        return Err((12, length as u32));
+    }
+    Ok(length)
 }
