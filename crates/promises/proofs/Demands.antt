@@ -16,7 +16,7 @@ use Rattle.units.proofs.Limits.{some-feasible}
 use Rattle.plans.specs.Switch.{total}
 use Rattle.format.specs.declared.Step.{Step}
 use Rattle.format.specs.Agreement.{Agree, untagged, readUntagged}
-use Rattle.format.specs.Answer.{Refused, Given, Cause, unless, First}
+use Rattle.format.specs.Answer.{Refused, Given, unless}
 use Rattle.format.specs.Chain.{following, chainOf, linkCauses}
 use Rattle.format.specs.Format.{sheetLength, unitsOf, boundOf, startOf}
 use Rattle.format.specs.Reading.{stepsCauses, stepsOf, readCauses, campaignOf, campaignRead}
@@ -37,7 +37,7 @@ use Rattle.promises.specs.Steps.{stepsRefusals, stepsReply, stepsWritten
 use Rattle.promises.specs.Verdict.{wordsCauses, verdictRefusals, accepts, judged, warmVerdict}
 use Rattle.promises.specs.Write.{writeRefusals, refusedWritten, fullWritten, wrote, warmWrite}
 use Rattle.promises.proofs.Charts.{words-length, words-cells, no-others}
-use Rattle.promises.proofs.Exactly.{exact}
+use Rattle.promises.proofs.Exactly.{exact, none-held}
 use Rattle.promises.proofs.Likeness.{alike-reply, alike-list, alike-plan, alike-chart, alike-verdict, alike-listing}
 use Rattle.promises.proofs.Plans.{plan-fewest, plan-length-on, over-bound, in-bound, plan-open, plan-given}
 use Rattle.promises.proofs.Read.{passed}
@@ -138,29 +138,22 @@ demand-2-verdict s plan ok long =
 -- A plan that was handed out, with a reply whose refusal is 0, is the one that FindSupport gives, and the verdict accepts it.
 pub demand-2-plan : (s out : List ℕ) → warmPlan s out .0 .refusal ≡ 0 → HandedOut s (warmPlan s out .0) (warmPlan s out .1)
 unfolding warmVerdict judged campaignOf
-demand-2-plan s out handed = go (exactly .decided)
-  where
-    exactly : Exact (planRefusals s (length out)) PlanNumber (warmPlan s out) (λ n p. (refusedReply n p, out))
-        (fullReply (total (startOf s) (supportOn s)) 0, written (supportOn s) out)
-    exactly = demand-1-plan s out
-
-    go : ((n : ℕ) × ((p : ℕ) × First (planRefusals s (length out)) n p)) ⊎ ((n p : ℕ) → First (planRefusals s (length out)) n p → ⊥)
-        → HandedOut s (warmPlan s out .0) (warmPlan s out .1)
-    go (inl (n, (p, f))) = absurd (omega (arith, exactly .numbered n p f, ap (λ (r : Reply × List ℕ). r .0 .refusal) (exactly .refusals n p f)))
-    go (inr none) =
-        let reply = exactly .replies none in
-        let (e, bound) = plan-given s (length out) (none-holds (planRefusals s (length out)) (Given (supportOn s)) none) in
-        let best = plan-fewest s e in
-        let words : take (length (stepsOf s)) (warmPlan s out .1) ≡ supportOn s =
-        ap (λ (r : Reply × List ℕ). take (length (stepsOf s)) (r .1)) reply ∙ take-at (supportOn s) (drop (length (supportOn s)) out) (length (stepsOf s)) (plan-length-on s) in
-        record {
-          support = words;
-          accepted =
-              ap (warmVerdict s) words
-              ∙ sym (ap judged (verdict-given s (supportOn s) e (plan-length-on s)))
-              ∙ ap (fullReply (total (startOf s) (supportOn s))) (accepts-exactly s (supportOn s) .1 (best .0, omega (arith, best .1 .0)))
-              ∙ sym (ap (λ (r : Reply × List ℕ). fullReply (r .0 .total) 1) reply);
-        }
+demand-2-plan s out handed =
+    let exactly = demand-1-plan s out in
+    let none = none-held exactly (λ (r : Reply × List ℕ). r .0 .refusal) (λ n p number e. omega (arith, number, e)) handed in
+    let reply = exactly .replies none in
+    let (e, bound) = plan-given s (length out) (none-holds (planRefusals s (length out)) (Given (supportOn s)) none) in
+    let best = plan-fewest s e in
+    let words : take (length (stepsOf s)) (warmPlan s out .1) ≡ supportOn s =
+    ap (λ (r : Reply × List ℕ). take (length (stepsOf s)) (r .1)) reply ∙ take-at (supportOn s) (drop (length (supportOn s)) out) (length (stepsOf s)) (plan-length-on s) in
+    record {
+      support = words;
+      accepted =
+          ap (warmVerdict s) words
+          ∙ sym (ap judged (verdict-given s (supportOn s) e (plan-length-on s)))
+          ∙ ap (fullReply (total (startOf s) (supportOn s))) (accepts-exactly s (supportOn s) .1 (best .0, omega (arith, best .1 .0)))
+          ∙ sym (ap (λ (r : Reply × List ℕ). fullReply (r .0 .total) 1) reply);
+    }
 
 -- ---- demand 3: any sheet that passes the checks, with outputs that have a place for every step
 
@@ -207,26 +200,14 @@ written-length d bound start xs = sheet-length d bound start xs
 pub written-reads-back : (d bound start : ℕ) (xs : List Step) (out : List ℕ) → bound < 2 ^ 16 → AllWide xs → warmWrite d bound start xs out .0 .refusal ≡ 0
     → campaignRead (take (warmWrite d bound start xs out .0 .length) (warmWrite d bound start xs out .1))
     ≡ unless (stepsCauses d 1 xs) (Given (record { units = d; bound = bound; start = start; steps = xs }))
-written-reads-back d bound start xs out narrow wide handed = go (exactly .decided)
-  where
-    s : List ℕ
-    s = sheetOf d bound start xs
-
-    causes : List Cause
-    causes = writeRefusals d start (length xs) (length out)
-
-    exactly : Exact causes WriteNumber (warmWrite d bound start xs out) (λ n p. (refusedWritten n p, out)) (fullWritten (length s), written s out)
-    exactly = demand-1-write d bound start xs out
-
-    go : ((n : ℕ) × ((p : ℕ) × First causes n p)) ⊎ ((n p : ℕ) → First causes n p → ⊥)
-        → campaignRead (take (warmWrite d bound start xs out .0 .length) (warmWrite d bound start xs out .1))
-        ≡ unless (stepsCauses d 1 xs) (Given (record { units = d; bound = bound; start = start; steps = xs }))
-    go (inl (n, (p, f))) = absurd (omega (arith, exactly .numbered n p f, ap (λ (r : Written × List ℕ). r .0 .refusal) (exactly .refusals n p f)))
-    go (inr none) =
-        let l = limited d start (length xs) (length out) (Given s) (none-holds causes (Given s) none) in
-        ap (λ (r : Written × List ℕ). campaignRead (take (r .0 .length) (r .1))) (exactly .replies none)
-        ∙ ap campaignRead (take-at s (drop (length s) out) (length s) refl)
-        ∙ written-reads d bound start xs (l .few) (l .some) (l .most) (l .own) narrow wide
+written-reads-back d bound start xs out narrow wide handed =
+    let s = sheetOf d bound start xs in
+    let exactly = demand-1-write d bound start xs out in
+    let none = none-held exactly (λ (r : Written × List ℕ). r .0 .refusal) (λ n p number e. omega (arith, number, e)) handed in
+    let l = limited d start (length xs) (length out) (Given s) (none-holds (writeRefusals d start (length xs) (length out)) (Given s) none) in
+    ap (λ (r : Written × List ℕ). campaignRead (take (r .0 .length) (r .1))) (exactly .replies none)
+    ∙ ap campaignRead (take-at s (drop (length s) out) (length s) refl)
+    ∙ written-reads d bound start xs (l .few) (l .some) (l .most) (l .own) narrow wide
 
 -- ---- sheets that differ only in job tags and in records off the chain
 

@@ -1,8 +1,9 @@
--- An entry whose reply and memory are a function of its answer answers exactly: demand 1 for each entry is one application.
-use mathlib.Core.Path.{sym, ap}
+-- An entry whose reply and memory are a function of its answer answers exactly: demand 1 for each entry is one application. And where a result says that nothing
+-- was refused, no cause held.
+use mathlib.Core.Path.{_≡_, sym, ap, _∙_}
 use mathlib.Core.List.{List}
 use Prim.Native.Nat.{ℕ}
-use Rattle.format.specs.Answer.{Answer, Refused, Given, Cause, unless}
+use Rattle.format.specs.Answer.{Answer, Refused, Given, Cause, unless, First}
 use Rattle.format.proofs.Answers.{first-decided, first-refuses, none-holds, numbered-first, Numbered}
 use Rattle.promises.specs.Statements.{Exact}
 
@@ -15,3 +16,8 @@ exact cs Number numbers v made =
       refusals = λ n p f. ap made (sym (first-refuses f (Given v)));
       replies = λ none. ap made (none-holds cs (Given v) none);
     }
+
+-- of a result, `refusal` gives the number of its refusal, or 0
+pub none-held : {R : Type 0} {cs : List Cause} {Number : ℕ → Type 0} {result : R} {refused : ℕ → ℕ → R} {given : R} → Exact cs Number result refused given
+    → (refusal : R → ℕ) → ((n p : ℕ) → Number n → refusal (refused n p) ≡ 0 → ⊥) → refusal result ≡ 0 → (n p : ℕ) → First cs n p → ⊥
+none-held e refusal some zero n p f = some n p (e .numbered n p f) (sym (ap refusal (e .refusals n p f)) ∙ zero)

@@ -1,13 +1,12 @@
 -- Laws on how a sheet begins: a reply without a refusal says that none is given, and then the header is put.
 use mathlib.Core.Path.{_≡_, refl, sym, ap, subst, _∙_}
-use mathlib.Core.Logic.{_⊎_, inl, inr}
-use mathlib.Core.List.{List, []}
+use mathlib.Core.List.{List}
 use Prim.Native.Nat.{ℕ}
 use native.Mathlib.Omega.{arith}
 use lib.Seq.{sets}
-use Rattle.format.specs.Answer.{Answer, Refused, Given, Cause, unless, First}
+use Rattle.format.specs.Answer.{Answer, Refused, Given, Cause, unless}
 use Rattle.format.specs.Format.{sheetLength}
-use Rattle.format.proofs.Answers.{first-decided, first-refuses, none-holds, numbered-first, Numbered}
+use Rattle.format.proofs.Answers.{first-refuses, none-holds, numbered-first, Numbered}
 use Rattle.promises.specs.declared.Written.{Written}
 use Rattle.promises.specs.Write.{writeRefusals}
 use Rattle.writer.specs.Begun.{replied, begun}
@@ -19,17 +18,19 @@ module _ (d start n places : ℕ) where
 
   pub not-refused : replied answer .refusal ≡ 0 → answer ≡ Given (sheetLength n)
   unfolding replied writeRefusals Numbered
-  not-refused e = go (first-decided causes)
+  not-refused e = none-holds causes (Given (sheetLength n)) (λ k p f. numbered-first Some f numbers (ap (λ a. replied a .refusal) (first-refuses f (Given (sheetLength n))) ∙ e))
     where
       causes : List Cause
       causes = writeRefusals d start n places
 
-      numbers : Numbered (λ k. k ≡ 0 → ⊥) causes
-      numbers = ((λ k. omega arith), ((λ k. omega arith), ((λ k. omega arith), ((λ k. omega arith), ((λ k. omega arith), tt)))))
+      Some : ℕ → Type 0
+      Some k = k ≡ 0 → ⊥
 
-      go : ((k : ℕ) × ((p : ℕ) × First causes k p)) ⊎ ((k p : ℕ) → First causes k p → ⊥) → answer ≡ Given (sheetLength n)
-      go (inl (k, (p, f))) = absurd (numbered-first (λ k. k ≡ 0 → ⊥) f numbers (ap (λ a. replied a .refusal) (first-refuses f (Given (sheetLength n))) ∙ e))
-      go (inr none) = none-holds causes (Given (sheetLength n)) none
+      some : Some 11
+      some e = omega arith
+
+      numbers : Numbered Some causes
+      numbers = (some, (some, (some, (some, ((λ k. omega arith), tt)))))
 
 pub begun-refused : (header out : List ℕ) (a : Answer ℕ) → (replied a .refusal ≡ 0 → ⊥) → (replied a, out) ≡ begun header out a
 unfolding replied begun
