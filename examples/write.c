@@ -12,6 +12,12 @@
 #include <inttypes.h>
 #include <stdio.h>
 
+static int refused(uint32_t refusal, uint32_t place)
+{
+    fprintf(stderr, "refused %" PRIu32 ": %s\n", refusal, warm_cause(refusal, place));
+    return 1;
+}
+
 int main(void)
 {
     /* lower set, upper set, least and greatest number, tag */
@@ -20,9 +26,11 @@ int main(void)
     static uint64_t sets[WARM_STEPS];
 
     warm_written written = warm_write(3, 3, 0, steps, 4, sheet, sizeof sheet);
+    if (written.refusal != 0)
+        return refused(written.refusal, written.place);
     warm_reply plan = warm_plan(sheet, written.length, sets, WARM_STEPS);
-    if (written.refusal != 0 || plan.refusal != 0)
-        return 1;
+    if (plan.refusal != 0)
+        return refused(plan.refusal, plan.place);
     for (int i = 0; i < 4; i++)
         printf("step %d: %#" PRIx64 "\n", i + 1, sets[i]);
     printf("%" PRIu32 " warm-ups\n", plan.total);

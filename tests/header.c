@@ -218,6 +218,7 @@ static void write_and_read(void)
     static const uint32_t no_tags[4] = { 0, 0, 0, 0 };
     uint8_t stored[121], *out = lent(WARM_BYTES);
     must(fread(stored, 1, sizeof stored, stdin) == 120, "the length of the sheet on standard input");
+    must(wrote(warm_write(3, 3, 0, four_steps(no_tags), 4, NULL, 0), 12, 120, 0), "the length of a sheet");
     must(wrote(warm_write(3, 3, 0, four_steps(no_tags), 4, out, 120), 0, 0, 120) && memcmp(out, stored, 120) == 0, "the sheet on standard input");
 
     warm_step *steps = lent(24 * WARM_STEPS), *same = lent(24 * WARM_STEPS), *list = lent(24 * WARM_STEPS);

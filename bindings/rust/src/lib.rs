@@ -1,6 +1,6 @@
 //! Plans which units of a bench are on in each step of a test campaign, so that as few as possible have to be warmed up.
 //!
-//! The work is done by a library that is proved to meet its definition for any bytes: a call gives a full reply, or one exact refusal.
+//! The work is done by a library that is proved to meet its definition for any input: a call gives a full reply, or one exact refusal.
 //! This crate wraps its five entries in safe functions over slices.
 //!
 //! | Function | What it gives |

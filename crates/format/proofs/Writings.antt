@@ -20,7 +20,7 @@ use Rattle.format.specs.Answer.{Answer, Given, unless}
 use Rattle.format.specs.Chain.{following, chainOf, isIn, linkCauses}
 use Rattle.format.specs.Format.{headerSize, recordSize, unitLimit, recordLimit, longest, upperAt, leastAt, greatestAt, nextAt, tagAt, recordOffset, sheetLength, unitsOf, recordsOf, boundOf, startOf, nextOf, stepOf}
 use Rattle.format.specs.Numbers.{byteAt, u16At, u32At, u64At, bytesOf}
-use Rattle.format.specs.Reading.{same, formCauses, headerCauses, stepsCauses, recordsOn, stepsOf, Campaign, campaignOf, campaignRead}
+use Rattle.format.specs.Reading.{same, formCauses, headerCauses, stepsCauses, recordsOn, stepsOf, campaignOf, campaignRead}
 use Rattle.format.specs.Writing.{headerBytes, recordBytes, linkIn, recordsAfter, sheetOf, Wide, AllWide}
 use Rattle.format.proofs.Answers.{passed-by, none-left}
 use Rattle.format.proofs.Chains.{in-last-other}

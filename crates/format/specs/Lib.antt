@@ -1,5 +1,5 @@
 -- Read in this order: `Numbers` in bytes, the `Format` of header and records, what an `Answer` is, the walk along the `Chain`, and the `Reading` of a whole
--- sheet. `Writing` has the bytes of a sheet that is written. `Stages` says what the reader's stages say, `Agreement` which sheets differ in nothing that counts,
+-- sheet. `Writing` has the bytes of a sheet that is written. `Stages` has the answer of each stage of the reader, `Agreement` which sheets differ in nothing that counts,
 -- and `Examples` has sheets written out.
 pub mod Agreement
 pub mod Answer

@@ -1,8 +1,8 @@
 -- What was asked for, as theorems over the definitions in specs/ that the entries are proved to equal. Open this file first.
 --
--- Demand 1. For any bytes and any lent list, an entry gives a full reply or one refusal of a fixed list with its place. A refusal is given
--- exactly when its cause holds and no earlier one of the table does (docs/FORMAT.md), and it leaves the lent list as it came. The table is the
--- list of causes that stands in the statement: `stepsRefusals`, and `readCauses` in it, are one line for each cause, in the order of the checks.
+-- Demand 1. For any input and any lent memory, an entry gives a full reply or one refusal of a fixed list with its place. A refusal is given
+-- exactly when its cause holds and no earlier one of the table does (docs/FORMAT.md), and it leaves the lent memory as it came. The table is the list of
+-- causes that stands in the statement: `stepsRefusals`, with `readCauses` in it, or `writeRefusals` are one line for each cause, in the order of the checks.
 use mathlib.Core.Path.{_≡_, refl, sym, ap, _∙_}
 use mathlib.Core.Logic.{_↔_, _⊎_, inl, inr}
 use mathlib.Core.Bool.{true, false}
@@ -37,12 +37,12 @@ use Rattle.promises.specs.Steps.{stepsRefusals, stepsReply, stepsWritten
 use Rattle.promises.specs.Verdict.{wordsCauses, verdictRefusals, accepts, judged, warmVerdict}
 use Rattle.promises.specs.Write.{writeRefusals, refusedWritten, fullWritten, wrote, warmWrite}
 use Rattle.promises.proofs.Charts.{words-length, words-cells, no-others}
-use Rattle.promises.proofs.Exactly.{exact, none-held}
+use Rattle.promises.proofs.Exactly.{exact, no-first}
 use Rattle.promises.proofs.Likeness.{alike-reply, alike-list, alike-plan, alike-chart, alike-verdict, alike-listing}
 use Rattle.promises.proofs.Plans.{plan-fewest, plan-length-on, over-bound, in-bound, plan-open, plan-given}
 use Rattle.promises.proofs.Read.{passed}
 use Rattle.promises.proofs.Verdicts.{verdict-given, accepts-exactly, turned-down}
-use Rattle.promises.proofs.Writes.{limited}
+use Rattle.promises.proofs.Writes.{limited, write-numbers}
 
 -- ---- demand 1
 
@@ -118,13 +118,10 @@ WriteNumber n = (11 ≤ n) × (n ≤ 12)
 pub demand-1-write : (d bound start : ℕ) (xs : List Step) (out : List ℕ)
     → Exact (writeRefusals d start (length xs) (length out)) WriteNumber (warmWrite d bound start xs out) (λ n p. (refusedWritten n p, out))
     (fullWritten (length (sheetOf d bound start xs)), written (sheetOf d bound start xs) out)
-unfolding warmWrite wrote writeRefusals Numbered
+unfolding warmWrite wrote
 demand-1-write d bound start xs out =
-    exact (writeRefusals d start (length xs) (length out)) WriteNumber (eleven, (eleven, (eleven, (eleven, ((omega arith, omega arith), tt))))) (sheetOf d bound start xs)
-    (wrote out)
-  where
-    eleven : WriteNumber 11
-    eleven = (omega arith, omega arith)
+    exact (writeRefusals d start (length xs) (length out)) WriteNumber
+    (write-numbers WriteNumber (omega arith, omega arith) (omega arith, omega arith) d start (length xs) (length out)) (sheetOf d bound start xs) (wrote out)
 
 -- ---- demand 2: a plan handed in beside a sheet that passes the checks
 
@@ -140,7 +137,7 @@ pub demand-2-plan : (s out : List ℕ) → warmPlan s out .0 .refusal ≡ 0 → 
 unfolding warmVerdict judged campaignOf
 demand-2-plan s out handed =
     let exactly = demand-1-plan s out in
-    let none = none-held exactly (λ (r : Reply × List ℕ). r .0 .refusal) (λ n p number e. omega (arith, number, e)) handed in
+    let none = no-first exactly (λ (r : Reply × List ℕ). r .0 .refusal) (λ n p number e. omega (arith, number, e)) handed in
     let reply = exactly .replies none in
     let (e, bound) = plan-given s (length out) (none-holds (planRefusals s (length out)) (Given (supportOn s)) none) in
     let best = plan-fewest s e in
@@ -195,15 +192,15 @@ the-walk-ends s r more = chain-is-long-enough s r more
 pub written-length : (d bound start : ℕ) (xs : List Step) → length (sheetOf d bound start xs) ≡ sheetLength (length xs)
 written-length d bound start xs = sheet-length d bound start xs
 
--- Where a sheet was written, with a reply whose refusal is 0, and each number is as wide as its field, the reader says of it the refusal of the first faulty
--- step, 6 or 7, or else the same units, bound, start set and steps, tags included.
+-- Where a sheet was written, with a reply whose refusal is 0, and each number is as wide as its field (the types of `warm_write` see to that), the reader says of
+-- it the refusal of the first faulty step, 6 or 7, or else the same units, bound, start set and steps, tags included.
 pub written-reads-back : (d bound start : ℕ) (xs : List Step) (out : List ℕ) → bound < 2 ^ 16 → AllWide xs → warmWrite d bound start xs out .0 .refusal ≡ 0
     → campaignRead (take (warmWrite d bound start xs out .0 .length) (warmWrite d bound start xs out .1))
     ≡ unless (stepsCauses d 1 xs) (Given (record { units = d; bound = bound; start = start; steps = xs }))
 written-reads-back d bound start xs out narrow wide handed =
     let s = sheetOf d bound start xs in
     let exactly = demand-1-write d bound start xs out in
-    let none = none-held exactly (λ (r : Written × List ℕ). r .0 .refusal) (λ n p number e. omega (arith, number, e)) handed in
+    let none = no-first exactly (λ (r : Written × List ℕ). r .0 .refusal) (λ n p number e. omega (arith, number, e)) handed in
     let l = limited d start (length xs) (length out) (Given s) (none-holds (writeRefusals d start (length xs) (length out)) (Given s) none) in
     ap (λ (r : Written × List ℕ). campaignRead (take (r .0 .length) (r .1))) (exactly .replies none)
     ∙ ap campaignRead (take-at s (drop (length s) out) (length s) refl)

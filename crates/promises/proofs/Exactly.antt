@@ -18,6 +18,6 @@ exact cs Number numbers v made =
     }
 
 -- of a result, `refusal` gives the number of its refusal, or 0
-pub none-held : {R : Type 0} {cs : List Cause} {Number : ℕ → Type 0} {result : R} {refused : ℕ → ℕ → R} {given : R} → Exact cs Number result refused given
+pub no-first : {R : Type 0} {cs : List Cause} {Number : ℕ → Type 0} {result : R} {refused : ℕ → ℕ → R} {given : R} → Exact cs Number result refused given
     → (refusal : R → ℕ) → ((n p : ℕ) → Number n → refusal (refused n p) ≡ 0 → ⊥) → refusal result ≡ 0 → (n p : ℕ) → First cs n p → ⊥
-none-held e refusal some zero n p f = some n p (e .numbered n p f) (sym (ap refusal (e .refusals n p f)) ∙ zero)
+no-first e refusal some zero n p f = some n p (e .numbered n p f) (sym (ap refusal (e .refusals n p f)) ∙ zero)

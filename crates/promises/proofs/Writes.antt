@@ -1,4 +1,4 @@
--- Laws on the answer of `warm_write`: what is known of a sheet that is not refused.
+-- Laws on the answer of `warm_write`: the numbers of its refusals, and what is known where nothing is refused.
 use mathlib.Core.Path.{_≡_}
 use mathlib.Core.Bool.{false}
 use Prim.Native.Nat.{ℕ, _≤_, _<_}
@@ -7,8 +7,13 @@ use borrow.Author.Tests.{ltb-false, eqb-false}
 use Rattle.units.specs.Sets.{hasUnitFrom}
 use Rattle.format.specs.Answer.{Answer, Given, unless}
 use Rattle.format.specs.Format.{unitLimit, recordLimit, sheetLength}
-use Rattle.format.proofs.Answers.{passed-first}
+use Rattle.format.proofs.Answers.{passed-first, Numbered}
 use Rattle.promises.specs.Write.{writeRefusals}
+
+-- 11 and 12 and no other
+pub write-numbers : (P : ℕ → Type 0) → P 11 → P 12 → (d start n places : ℕ) → Numbered P (writeRefusals d start n places)
+unfolding writeRefusals Numbered
+write-numbers P eleven twelve d start n places = (eleven, (eleven, (eleven, (eleven, (twelve, tt)))))
 
 -- d, the start set and n are within the sheet's limits, and the output has room for the sheet
 pub record Limited (d start n places : ℕ) : Type 0 where

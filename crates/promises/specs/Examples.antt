@@ -1,5 +1,5 @@
 -- Worked examples: what an entry replies on a sheet and leaves in the lent memory. One statement, `Holds` of every row, is proved in proofs/Examples.antt from
--- the definitions alone. specs/Examples.antt of `format` has how sheets are written out, and what the reader says of sheets with every fault.
+-- the definitions alone. specs/Writing.antt of `format` has the bytes of a sheet, and its specs/Examples.antt what the reader says of sheets with every fault.
 use Prim.Native.Nat.{ℕ}
 use mathlib.Core.Path.{_≡_}
 use mathlib.Core.List.{List, [], _∷_, _++_}

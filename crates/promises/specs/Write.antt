@@ -11,8 +11,8 @@ use Rattle.format.specs.Writing.{sheetOf}
 use Rattle.promises.specs.declared.Written.{Written}
 use Rattle.promises.specs.Common.{written}
 
--- refusals 11 and 12, for d units, a start set and n steps, where the output has that many places: d, the start set or n is outside the sheet's limits; the
--- output is shorter than the sheet
+-- refusals 11 and 12, for d units, a start set and n steps, where the output has so many places: d, the start set or n is outside the sheet's limits; the output
+-- is shorter than the sheet
 unfoldable pub writeRefusals : ℕ → ℕ → ℕ → ℕ → List Cause
 writeRefusals d start n places =
     cause (eqb d 0) 11 0

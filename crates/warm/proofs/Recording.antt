@@ -1,6 +1,6 @@
 -- The loop of `warm_write` in lists: what it begins with, what its turns make of the output, and where it stands between two turns.
-use mathlib.Core.Path.{_≡_, refl, sym, ap, ap₂, subst, _∙_}
-use mathlib.Core.List.{List, [], _∷_, _++_}
+use mathlib.Core.Path.{_≡_, refl, sym, ap, ap₂, _∙_}
+use mathlib.Core.List.{List, _∷_, _++_}
 use Prim.Native.Nat.{ℕ, _+_, _-_, _/_, _≤_, _<_}
 use native.Mathlib.Nat.{zero-add}
 use native.Mathlib.Numerals.{add-one}
@@ -17,8 +17,7 @@ use Rattle.format.proofs.Writings.{sheet-length}
 use Rattle.promises.specs.declared.Written.{Written}
 use Rattle.promises.specs.Write.{writeRefusals, refusedWritten, fullWritten, wrote, warmWrite}
 use Rattle.promises.proofs.Writes.{limited}
-use Rattle.writer.specs.Begun.{replied, begun}
-use Rattle.writer.proofs.Beginning.{answer}
+use Rattle.writer.specs.Begun.{lengthAnswer, replied, begun}
 use Rattle.writer.proofs.Places.{sets-append}
 
 -- ---- what the loop begins with
@@ -34,9 +33,17 @@ pub record Ready (xs : List Step) (ys zs : List ℕ) (m : ℕ) : Type 0 where
   pub room : 0 < m → sheetLength m ≤ length ys
   pub same : length zs ≡ length ys
 
--- a sheet has begun, with the reply r and zs in the output: once its records are put, reply and output are what was promised
-module _ (d bound start : ℕ) (xs : List Step) (ys : List ℕ) {r : Written} {zs : List ℕ}
-    (e : _≡_ {A = Written × List ℕ} (r, zs) (begun (headerBytes d (length xs) (linkIn 0 (length xs)) bound start) ys (answer d start (length xs) (length ys)))) where
+module _ (d bound start : ℕ) (xs : List Step) (ys : List ℕ) (r : Written) (zs : List ℕ) where
+  -- a sheet has begun, with the reply r and zs in the output
+  abbrev pub Begun : Type 0
+  Begun = _≡_ {A = Written × List ℕ} (r, zs) (begun (headerBytes d (length xs) (linkIn 0 (length xs)) bound start) ys (lengthAnswer d start (length xs) (length ys)))
+
+  -- once m records are put, reply and output are what was promised
+  abbrev pub Promised : ℕ → Type 0
+  Promised m = Ready xs ys zs m × _≡_ {A = Written × List ℕ} (r, recorded m xs zs) (warmWrite d bound start xs ys)
+
+-- so it is with as many records as the reply's length says
+module _ (d bound start : ℕ) (xs : List Step) (ys : List ℕ) {r : Written} {zs : List ℕ} (e : Begun d bound start xs ys r zs) where
   abbrev n : ℕ
   n = length xs
 
@@ -47,15 +54,15 @@ module _ (d bound start : ℕ) (xs : List Step) (ys : List ℕ) {r : Written} {z
   sheet = sheetOf d bound start xs
 
   abbrev found : Answer ℕ
-  found = answer d start n (length ys)
+  found = lengthAnswer d start n (length ys)
 
   abbrev m : ℕ
   m = r .length / recordSize - 1
 
-  abbrev Promised : Type 0
-  Promised = Ready xs ys zs m × _≡_ {A = Written × List ℕ} (r, recorded m xs zs) (warmWrite d bound start xs ys)
+  abbrev AsPromised : Type 0
+  AsPromised = Promised d bound start xs ys r zs m
 
-  refused : (k p : ℕ) → found ≡ Refused k p → Promised
+  refused : (k p : ℕ) → found ≡ Refused k p → AsPromised
   unfolding begun replied recordsAfter warmWrite wrote
   refused k p a =
       let b = e ∙ ap (begun header ys) a in
@@ -67,7 +74,7 @@ module _ (d bound start : ℕ) (xs : List Step) (ys : List ℕ) {r : Written} {z
             ∙ ap (wrote ys) (refused-whatever (writeRefusals d start n (length ys)) (sheetLength n) (sym a) (Given sheet)),
       )
 
-  given : {long : ℕ} → found ≡ Given long → Promised
+  given : {long : ℕ} → found ≡ Given long → AsPromised
   unfolding begun replied headerBytes bytesOf sheetOf warmWrite wrote
   given {long} a =
       let b = e ∙ ap (begun header ys) a in
@@ -87,10 +94,10 @@ module _ (d bound start : ℕ) (xs : List Step) (ys : List ℕ) {r : Written} {z
             ∙ ap (wrote ys) (sym (all-passed (writeRefusals d start n (length ys)) (Given (sheetLength n)) a (Given sheet))),
       )
 
-  pub promised : Promised
+  pub promised : Promised d bound start xs ys r zs m
   promised = go found refl
     where
-      go : (a : Answer ℕ) → found ≡ a → Promised
+      go : (a : Answer ℕ) → found ≡ a → AsPromised
       go (Refused k p) h = refused k p h
       go (Given long) h = given h
 

@@ -2,11 +2,16 @@
 use Prim.Native.Nat.{ℕ}
 use mathlib.Core.List.{List}
 use lib.Seq.{sets}
-use Rattle.format.specs.Answer.{Answer, Refused, Given}
+use Rattle.format.specs.Answer.{Answer, Refused, Given, unless}
+use Rattle.format.specs.Format.{sheetLength}
 use Rattle.promises.specs.declared.Written.{Written}
-use Rattle.promises.specs.Write.{refusedWritten, fullWritten}
+use Rattle.promises.specs.Write.{writeRefusals, refusedWritten, fullWritten}
 
--- the reply: a refusal, or the sheet's length
+-- one refusal of 11 and 12, or the length of the sheet, for d units, a start set, n steps and an output of so many places
+abbrev pub lengthAnswer : ℕ → ℕ → ℕ → ℕ → Answer ℕ
+lengthAnswer d start n places = unless (writeRefusals d start n places) (Given (sheetLength n))
+
+-- the reply
 unfoldable pub replied : Answer ℕ → Written
 replied (Refused n p) = refusedWritten n p
 replied (Given long) = fullWritten long

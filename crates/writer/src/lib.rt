@@ -9,11 +9,10 @@ use sheet::Sheet;
 ghost use mathlib.Core.Path.{_≡_};
 ghost use Prim.Native.Nat.{_-_, _/_};
 ghost use lib.ListN.{length};
-ghost use Rattle.format.specs.Answer.{Given, unless};
-ghost use Rattle.format.specs.Format.{recordSize, sheetLength};
+ghost use Rattle.format.specs.Format.{recordSize};
 ghost use Rattle.format.specs.Writing.{headerBytes, linkIn};
-ghost use Rattle.promises.specs.Write.{writeRefusals, refusedWritten};
-ghost use Rattle.writer.specs.Begun.{replied, begun};
+ghost use Rattle.promises.specs.Write.{refusedWritten};
+ghost use Rattle.writer.specs.Begun.{lengthAnswer, replied, begun};
 
 // A refusal.
 fn write_refused(number: u32, place: u32) -> Written
@@ -27,9 +26,9 @@ fn write_refused(number: u32, place: u32) -> Written
     }
 }
 
-// The reply for a sheet of n steps, where the output has that many places.
+// The reply for a sheet of n steps, where the output has so many places.
 fn write_reply(units: u8, start: u64, n: usize, places: usize) -> Written
-    ensures { λ r. ⌜ r ≡ replied (unless (writeRefusals units start n places) (Given (sheetLength n))) ⌝ }
+    ensures { λ r. ⌜ r ≡ replied (lengthAnswer units start n places) ⌝ }
 {
     if units == 0 {
         return write_refused(11, 0);
@@ -60,8 +59,7 @@ pub fn begin_sheet(units: u8, bound: u16, start: u64, n: usize, out: &mut [u8]) 
     ensures { λ r.
         ⌜
         (r, now (out .exit)) ≡
-        begun (headerBytes units n (linkIn 0 n) bound start) (now (out .entry))
-        (unless (writeRefusals units start n (length (now (out .entry)))) (Given (sheetLength n)))
+        begun (headerBytes units n (linkIn 0 n) bound start) (now (out .entry)) (lengthAnswer units start n (length (now (out .entry))))
         ⌝ }
 {
     let reply = write_reply(units, start, n, out.len());

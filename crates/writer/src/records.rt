@@ -8,7 +8,7 @@ use format::Step;
 use sheet::Sheet;
 use sheet::record::record_offset;
 ghost use mathlib.Core.Path.{_≡_};
-ghost use Prim.Native.Nat.{_+_, _≤_};
+ghost use Prim.Native.Nat.{_≤_};
 ghost use lib.ListN.{length};
 ghost use lib.Seq.{sets};
 ghost use Rattle.format.specs.Format.{headerSize, recordLimit, recordOffset, sheetLength};
@@ -26,7 +26,7 @@ fn link_in(j: usize, n: usize) -> u64
 }
 
 // Puts the header of a sheet of n records, and leaves all other bytes.
-pub fn put_header(units: u8, n: usize, bound: u16, start: u64, out: &mut [u8])
+pub(crate) fn put_header(units: u8, n: usize, bound: u16, start: u64, out: &mut [u8])
     requires { ⌜ n ≤ recordLimit ⌝ }
     requires { ⌜ headerSize ≤ length (now out) ⌝ }
     ensures { λ _. ⌜ now (out .exit) ≡ sets (now (out .entry)) 0 (headerBytes units n (linkIn 0 n) bound start) ⌝ }

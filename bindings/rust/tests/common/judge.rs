@@ -45,9 +45,9 @@ pub fn step_list(places: usize) -> Output<Step> {
     Output::new(MARGIN, places, |word| Step::new(word, !word, word as u8, (word >> 8) as u8, (word >> 16) as u32))
 }
 
-/// Bytes from a place on, so that they can lie at any alignment.
-pub fn bytes(from: usize, places: usize) -> Output<u8> {
-    Output::new(from, places, |word| word as u8)
+/// Bytes that begin so many places after the margin, so that they can lie at any alignment.
+pub fn bytes(after: usize, places: usize) -> Output<u8> {
+    Output::new(MARGIN + after, places, |word| word as u8)
 }
 
 pub struct Judge {

@@ -9,7 +9,8 @@ use Rattle.format.specs.Answer.{Given}
 use Rattle.format.specs.Format.{sheetLength}
 use Rattle.promises.specs.declared.Written.{Written}
 use Rattle.promises.proofs.Writes.{limited}
-use Rattle.writer.proofs.Beginning.{answer, not-refused, begun-refused, begun-given}
+use Rattle.writer.specs.Begun.{lengthAnswer}
+use Rattle.writer.proofs.Beginning.{not-refused, begun-refused, begun-given}
 use borrow.Author.Needs.{needs}
 use Rattle.writer.proofs.begin_sheet.Statement.{statement}
 use Rattle.writer.proofs.begin_sheet.Tie as tie
@@ -18,7 +19,7 @@ write-reply-requires : tie.Need-write-reply-requires
 write-reply-requires c κs = search needs
 
 -- where the reply has no refusal, none is given
-given : (c : tie.Then1) → let a = c .before .before .before .before .args in answer (a .units) (a .start) (a .n) (length (now (a .out))) ≡ Given (sheetLength (a .n))
+given : (c : tie.Then1) → let a = c .before .before .before .before .args in lengthAnswer (a .units) (a .start) (a .n) (length (now (a .out))) ≡ Given (sheetLength (a .n))
 given c =
     let a = c .before .before .before .before .args in
     not-refused (a .units) (a .start) (a .n) (length (now (a .out))) (sym (ap (λ (w : Written). w .refusal) (c .before .before .write-reply .ensures)) ∙ c .if1 .taken)

@@ -47,15 +47,12 @@ use denote.Triple.Table.{entered, cited}
 use denote.Triple.Walked.{says, Stays, stay-none, stay-none-slice, stay-slice, walkOf, Walks, ends-at, walked, goes-none, goes-none-slice, goes-slice, walk-meets}
 use Rattle.format.specs.declared.Step.{Step}
 use Rattle.format.specs.Format.{recordSize, recordLimit, sheetLength}
-use Rattle.format.specs.Writing.{headerBytes, linkIn}
 use Rattle.format.proofs.Step as T
 use Rattle.format.proofs.Step.Laws as T′
 use Rattle.promises.specs.declared.Written.{Written}
 use Rattle.promises.specs.Write.{warmWrite}
 use Rattle.promises.proofs.Written as R
 use Rattle.promises.proofs.Written.Laws as R′
-use Rattle.writer.specs.Begun.{begun}
-use Rattle.writer.proofs.Beginning.{answer}
 use Rattle.writer.proofs.begin_sheet as begin-sheet
 use Rattle.writer.proofs.begin_sheet.Symbol as begin-sheet-def
 use Rattle.writer.proofs.begin_sheet.Symbol.{name as #begin-sheet}
@@ -69,7 +66,7 @@ use Rattle.writer.proofs.records.put_record.Symbol as put-record-def
 use Rattle.writer.proofs.records.put_record.Symbol.{name as #put-record}
 use Rattle.writer.proofs.records.put_record.Met as put-record-thm
 use Rattle.warm.proofs.Lending.{output, value, Output, Kept, lends, comes-back}
-use Rattle.warm.proofs.Recording.{Ready, recorded, promised, noStep, Turn, begin, taken, turned, next, nearer, ended}
+use Rattle.warm.proofs.Recording.{Begun, Promised, promised, noStep, Turn, begin, taken, turned, next, nearer, ended}
 use Rattle.warm.proofs.Walk.{here, tests}
 use Rattle.warm.proofs.writing.warm_write.Key.{name as #warm-write}
 use Rattle.warm.proofs.writing.warm_write as warm-write
@@ -185,16 +182,9 @@ module _ {M : Type 1} (𝓤 : URA M) (H : Heap 𝓤) (A : Atoms 𝓤) (W : Given
   abbrev w : Step → Val
   w x = only (LL.vals T.the-type T′.the-laws x)
 
-  -- the equation that `begin_sheet` ensures, of its reply and the last list
-  abbrev Begun : Written → List ℕ → Type 0
-  Begun r zs = _≡_ {A = Written × List ℕ} (r, zs) (begun (headerBytes d n (linkIn 0 n) bnd st) ys (answer d st n (length ys)))
-
-  -- what follows from it, of the number m that `records_in` gives
-  abbrev Promised : Written → List ℕ → ℕ → Type 0
-  Promised r zs m = Ready xs ys zs m × _≡_ {A = Written × List ℕ} (r, recorded m xs zs) (warmWrite d bnd st xs ys)
-
-  promised-at : (r : Written) (zs : List ℕ) (m : ℕ) → Begun r zs → m ≡ r .length / recordSize - 1 → Promised r zs m
-  promised-at r zs m e k = subst (Promised r zs) (sym k) (promised d bnd st xs ys e)
+  -- what follows from what `begin_sheet` ensures, of the number m that `records_in` gives
+  promised-at : (r : Written) (zs : List ℕ) (m : ℕ) → Begun d bnd st xs ys r zs → m ≡ r .length / recordSize - 1 → Promised d bnd st xs ys r zs m
+  promised-at r zs m e k = subst (Promised d bnd st xs ys r zs) (sym k) (promised d bnd st xs ys e)
 
   module _ (l₀ l₁ l₂ l₃ l₄ l₅ l₆ l₇ l₈ l₉ l₁₀ l₁₁ l₁₂ l₁₃ l₁₄ l₁₅ l₁₆ l₁₇ l₁₈ l₁₉ : ℕ) where
     abbrev En : Env 𝓤 H
@@ -209,7 +199,7 @@ module _ {M : Type 1} (𝓤 : URA M) (H : Heap 𝓤) (A : Atoms 𝓤) (W : Given
         ∷ ‵ (fat fullShare sheetTy l₅ 0 v) ∷ ‵ (fdies sheetTy l₅) ∷ ‵ (fat fullShare stepsTy l₄ 0 v₁) ∷ ‵ (fdies stepsTy l₄) ∷ ‵ (fat fullShare word l₃ 0 (vint w64 st)) ∷ ‵ (fdies word l₃)
         ∷ ‵ (fat fullShare (tyInt w16) l₂ 0 (vint w16 bnd)) ∷ ‵ (fdies (tyInt w16) l₂) ∷ ‵ (fat fullShare (tyInt w8) l₁ 0 (vint w8 d)) ∷ ‵ (fdies (tyInt w8) l₁) ∷ ‵ (froom R′.mir l₀ 0) ∷ ‵ (fdies R′.mir l₀) ∷ []
 
-    module _ (r : Written) (zs : List ℕ) (m : ℕ) (g : Promised r zs m) (is : Is R.the-row r (R′.lowered r ∷ [])) where
+    module _ (r : Written) (zs : List ℕ) (m : ℕ) (g : Promised d bnd st xs ys r zs m) (is : Is R.the-row r (R′.lowered r ∷ [])) where
       -- where the loop stands, and the order of its turns
       abbrev At : Type 0
       At = Turn xs m (g .0 .few) zs
@@ -313,7 +303,7 @@ module _ {M : Type 1} (𝓤 : URA M) (H : Heap 𝓤) (A : Atoms 𝓤) (W : Given
           by ! (exits r (t .ws) (long t) (ap (λ (k : List ℕ). (r, k)) (ended xs m (g .0 .few) zs t (nltb→le (t .i) m z)) ∙ g .1) is))
 
     -- the rest of the body once the header is put: how many records there are, and the loop
-    goes-on : (r : Written) (zs : List ℕ) → Begun r zs → Is R.the-row r (R′.lowered r ∷ []) → r .length < 2 ^ 32
+    goes-on : (r : Written) (zs : List ℕ) → Begun d bnd st xs ys r zs → Is R.the-row r (R′.lowered r ∷ []) → r .length < 2 ^ 32
         → Sq W (‵ (Sheet zs) ∷ ‵ (flft κ′ q′) ∷ ‵ (flft κ q) ∷ ‵ Steps ∷ Locals (froom word l₈ 0) (froom word l₇ 0) r) (runs (𝓣 .C) (𝓣 .Λ) En t-5 (atRet En After))
     goes-on r zs e is r-fits =
         use0 W (raw (In 𝓤 H A mem run .pre (to-in r))) (goes-in r r-fits) $
@@ -343,8 +333,8 @@ module _ {M : Type 1} (𝓤 : URA M) (H : Heap 𝓤) (A : Atoms 𝓤) (W : Given
       use2 W (later (some (λ (δ : GName). ‵ (Lent ν δ ys) ⊛ ‵ (Held ν δ ys)))) (lends b o (length ys) κ′ q′ γ ν 𝓤 H A W (named 1) ys refl) $ await ! tt $ pick ! (λ δ. split ! $
       move ! (2 ∷ 0 ∷ []) $ use2 W (raw (Begin 𝓤 H A mem run .pre (to-begin ν δ))) (goes-begin ν δ) $
       calls-at ! (fmOf 𝓤 H (W .laws) 𝓣) (Begin 𝓤 H A mem run) begins (to-begin ν δ) (and-then ! (here ! 40 refl) (and-then ! (here ! 38 refl) (and-then ! (here ! 36 refl) (and-then ! (here ! 24 refl) (and-then ! (here ! 20 refl) (no-more !)))))) (λ u.
-      use1 W (later (some (λ (r : Written). ((‵ (flft (ν ∷ []) fullShare) ⊛ ‵ ftrue) ⊛ ‵ (R.the-row .own r (u ∷ []))) ⊛ some (λ (ws : Unit {0} × (Unit {0} × (Unit {0} × (Unit {0} × (List ℕ × Unit {0}))))). ‵ (lasts begin-sheet.ended (ν ∷ [], tt) (d, (bnd, (st, (n, (out δ ys, tt))))) ws) ⊛ raw (fact 𝓤 (Begun r (ws .1 .1 .1 .1 .0))))))) (id⊢ 𝓤 _) $ await ! tt $ pick ! (λ r.
-      split ! $ move ! (1 ∷ []) $ pick ! (λ ws. split ! $ move ! (1 ∷ []) $ heard ! (Begun r (ws .1 .1 .1 .1 .0)) (λ e.
+      use1 W (later (some (λ (r : Written). ((‵ (flft (ν ∷ []) fullShare) ⊛ ‵ ftrue) ⊛ ‵ (R.the-row .own r (u ∷ []))) ⊛ some (λ (ws : Unit {0} × (Unit {0} × (Unit {0} × (Unit {0} × (List ℕ × Unit {0}))))). ‵ (lasts begin-sheet.ended (ν ∷ [], tt) (d, (bnd, (st, (n, (out δ ys, tt))))) ws) ⊛ raw (fact 𝓤 (Begun d bnd st xs ys r (ws .1 .1 .1 .1 .0))))))) (id⊢ 𝓤 _) $ await ! tt $ pick ! (λ r.
+      split ! $ move ! (1 ∷ []) $ pick ! (λ ws. split ! $ move ! (1 ∷ []) $ heard ! (Begun d bnd st xs ys r (ws .1 .1 .1 .1 .0)) (λ e.
       fsplit ! $ let-go ! $ fsplit ! $ let-go ! $ fsplit ! $ let-go ! $ fsplit ! $ let-go ! $ fsplit ! $ fsplit ! $ move ! (1 ∷ []) $ feqL ! (λ f. move ! (2 ∷ []) $ split ! $ move ! (1 ∷ []) $ facts ! R.the-row (Is R.the-row) (shows 𝓤 H A R.the-row) r (u ∷ []) (λ iu.
       let is-r = R′.lowers .val-is r (u ∷ []) iu in
       let is = subst (Is R.the-row r) is-r iu in
