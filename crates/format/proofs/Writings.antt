@@ -21,7 +21,7 @@ use Rattle.format.specs.Chain.{following, chainOf, isIn, linkCauses}
 use Rattle.format.specs.Format.{headerSize, recordSize, unitLimit, recordLimit, longest, upperAt, leastAt, greatestAt, nextAt, tagAt, recordOffset, sheetLength, unitsOf, recordsOf, boundOf, startOf, nextOf, stepOf}
 use Rattle.format.specs.Numbers.{byteAt, u16At, u32At, u64At, bytesOf}
 use Rattle.format.specs.Reading.{same, formCauses, headerCauses, stepsCauses, recordsOn, stepsOf, campaignOf, campaignRead}
-use Rattle.format.specs.Writing.{headerBytes, recordBytes, linkIn, recordsAfter, sheetOf, Wide, AllWide}
+use Rattle.format.specs.Writing.{headerBytes, recordBytes, linkIn, recordsAfter, sheetOf, numbersFrom, Wide, AllWide}
 use Rattle.format.proofs.Answers.{passed-by, none-left}
 use Rattle.format.proofs.Chains.{in-last-other}
 use Rattle.format.proofs.Numbers.{same-u16, same-u32, same-u64, read-u16, read-u32, read-u64}
@@ -105,28 +105,23 @@ module _ {s : List ℕ} {j n : ℕ} {x : Step} {xs : List Step} (f : Followed s 
             ∙ next-written (f .before) (recordsAfter (j + 1) n xs) x link (j + 1) (f .long) (omega arith) (link-small (j + 1) n few);
       }
 
--- the numbers of the records after record j, one for each step
-numbersAfter : ℕ → List Step → List ℕ
-numbersAfter j [] = []
-numbersAfter j (x ∷ xs) = (j + 1) ∷ numbersAfter (j + 1) xs
-
 module _ (s : List ℕ) (n : ℕ) (few : n ≤ recordLimit) where
-  following-written : (j : ℕ) (xs : List Step) → Followed s j n xs → following (suc (length xs)) s j ≡ numbersAfter j xs
-  unfolding numbersAfter following linkIn
+  following-written : (j : ℕ) (xs : List Step) → Followed s j n xs → following (suc (length xs)) s j ≡ numbersFrom (j + 1) (length xs)
+  unfolding numbersFrom following linkIn
   following-written j [] f = rw (f .link, le-ltb j n (omega (arith, f .left)))
   following-written j (x ∷ xs) f =
       rw (f .link, lt-ltb j n (omega (arith, f .left)), ne-eqb (j + 1) 0 (λ e. omega arith))
       (ap (λ l. (j + 1) ∷ l) (following-written (j + 1) xs (followed-on f few)))
 
-  steps-written : (j : ℕ) (xs : List Step) → Followed s j n xs → AllWide xs → map (stepOf s) (numbersAfter j xs) ≡ xs
-  unfolding numbersAfter
+  steps-written : (j : ℕ) (xs : List Step) → Followed s j n xs → AllWide xs → map (stepOf s) (numbersFrom (j + 1) (length xs)) ≡ xs
+  unfolding numbersFrom
   steps-written j [] f w = refl
   steps-written j (x ∷ xs) f w = ap₂ (λ y ys. y ∷ ys) (step-here f few (w .0)) (steps-written (j + 1) xs (followed-on f few) (w .1))
 
 -- no link leads out of the n records, or to one already met: those met have no number above j
 links-written : {A : Type 0} (j n : ℕ) (met : List ℕ) (xs : List Step) (a : Answer A) → j + length xs ≡ n → ((m : ℕ) → j < m → isIn m met ≡ false)
-    → unless (linkCauses n met j (numbersAfter j xs)) a ≡ a
-unfolding numbersAfter linkCauses
+    → unless (linkCauses n met j (numbersFrom (j + 1) (length xs))) a ≡ a
+unfolding numbersFrom linkCauses
 links-written j n met [] a h below = sym (none-left a)
 links-written j n met (x ∷ xs) a h below =
     sym (passed-by _ _ _ (le-ltb n (j + 1) (omega (arith, h))) (passed-by _ _ _ (below (j + 1) (omega arith))
@@ -152,7 +147,7 @@ module _ (d bound start : ℕ) (xs : List Step) where
   sheet-length = omega (arith, records-length 0 n xs)
 
   module _ (few : n ≤ recordLimit) where
-    records-written : recordsOf s ≡ n
+    pub records-written : recordsOf s ≡ n
     unfolding sheetOf headerBytes bytesOf u16At byteAt
     records-written = read-u16 n [] (omega (arith, few))
 
@@ -167,7 +162,7 @@ module _ (d bound start : ℕ) (xs : List Step) where
           link = read-u16 (linkIn 0 n) [] (link-small 0 n few);
         }
 
-    chain-written : recordsOn s ≡ numbersAfter 0 xs
+    pub chain-written : recordsOn s ≡ numbersFrom 1 n
     unfolding chainOf
     chain-written = ap (λ (r : ℕ). following (suc r) s 0) records-written ∙ following-written s n few 0 xs followed
 

@@ -1,6 +1,7 @@
 -- The bytes of a sheet that is written from d, a bound, a start set and some steps: a record for each step, chained in the order of the steps, and no
--- other. What the reader says of them is `written-reads-back` in proofs/Demands.antt of `promises`.
-use Prim.Native.Nat.{ℕ, _+_, _^_, _<_}
+-- other. That the chain goes through them in this order, and what the reader says of them, is `written-in-order` and `written-reads-back` in
+-- proofs/Demands.antt of `promises`.
+use Prim.Native.Nat.{ℕ, zero, suc, _+_, _^_, _<_}
 use mathlib.Core.Bool.{cond}
 use mathlib.Core.List.{List, [], _∷_, _++_}
 use lib.Dec.{ltb}
@@ -32,6 +33,13 @@ unfoldable pub sheetOf : ℕ → ℕ → ℕ → List Step → List ℕ
 sheetOf d bound start xs =
     let n = length xs in
     headerBytes d n (linkIn 0 n) bound start ++ recordsAfter 0 n xs
+
+-- ---- what is said of it
+
+-- n numbers from j on: the records of a sheet of n steps are `numbersFrom 1 n`
+unfoldable pub numbersFrom : ℕ → ℕ → List ℕ
+numbersFrom j zero = []
+numbersFrom j (suc n) = j ∷ numbersFrom (j + 1) n
 
 -- each number of a step is as wide as its field
 pub record Wide (x : Step) : Type 0 where

@@ -18,14 +18,14 @@ use Rattle.format.specs.declared.Step.{Step}
 use Rattle.format.specs.Agreement.{Agree, untagged, readUntagged}
 use Rattle.format.specs.Answer.{Refused, Given, unless}
 use Rattle.format.specs.Chain.{following, chainOf, linkCauses}
-use Rattle.format.specs.Format.{sheetLength, unitsOf, boundOf, startOf}
-use Rattle.format.specs.Reading.{stepsCauses, stepsOf, readCauses, campaignOf, campaignRead}
-use Rattle.format.specs.Writing.{sheetOf, AllWide}
+use Rattle.format.specs.Format.{sheetLength, unitsOf, recordsOf, boundOf, startOf}
+use Rattle.format.specs.Reading.{stepsCauses, recordsOn, stepsOf, readCauses, campaignOf, campaignRead}
+use Rattle.format.specs.Writing.{sheetOf, numbersFrom, AllWide}
 use Rattle.format.proofs.Agreements.{same-read}
 use Rattle.format.proofs.Answers.{none-holds, numbered-append, Numbered}
 use Rattle.format.proofs.Chains.{chain-is-long-enough}
 use Rattle.format.proofs.Readings.{numbered-read}
-use Rattle.format.proofs.Writings.{sheet-length, written-reads}
+use Rattle.format.proofs.Writings.{sheet-length, records-written, chain-written, written-reads}
 use Rattle.promises.specs.Chart.{onWords, offWords, charted, warmChart}
 use Rattle.promises.specs.Common.{placesCauses, written, refusedReply, fullReply}
 use Rattle.promises.specs.Plan.{supportOn, boundCauses, planRefusals, planned, warmPlan}
@@ -42,7 +42,7 @@ use Rattle.promises.proofs.Likeness.{alike-reply, alike-list, alike-pla
 use Rattle.promises.proofs.Plans.{plan-fewest, plan-length-on, over-bound, in-bound, plan-open, plan-given}
 use Rattle.promises.proofs.Read.{passed}
 use Rattle.promises.proofs.Verdicts.{verdict-given, accepts-exactly, turned-down}
-use Rattle.promises.proofs.Writes.{limited, write-numbers}
+use Rattle.promises.proofs.Writes.{Limited, limited, write-numbers}
 
 -- ---- demand 1
 
@@ -192,19 +192,35 @@ the-walk-ends s r more = chain-is-long-enough s r more
 pub written-length : (d bound start : ℕ) (xs : List Step) → length (sheetOf d bound start xs) ≡ sheetLength (length xs)
 written-length d bound start xs = sheet-length d bound start xs
 
--- Where a sheet was written, with a reply whose refusal is 0, and each number is as wide as its field (the types of `warm_write` see to that), the reader says of
--- it the refusal of the first faulty step, 6 or 7, or else the same units, bound, start set and steps, tags included.
+-- Where it was written, with a reply whose refusal is 0, the first bytes of the output, as many as the reply says, are the sheet, within its limits.
+the-sheet : (d bound start : ℕ) (xs : List Step) (out : List ℕ) → warmWrite d bound start xs out .0 .refusal ≡ 0
+    → (take (warmWrite d bound start xs out .0 .length) (warmWrite d bound start xs out .1) ≡ sheetOf d bound start xs) × Limited d start (length xs) (length out)
+the-sheet d bound start xs out handed =
+    let s = sheetOf d bound start xs in
+    let exactly = demand-1-write d bound start xs out in
+    let none = no-first exactly (λ (r : Written × List ℕ). r .0 .refusal) (λ n p number e. omega (arith, number, e)) handed in (
+      ap (λ (r : Written × List ℕ). take (r .0 .length) (r .1)) (exactly .replies none) ∙ take-at s (drop (length s) out) (length s) refl,
+      limited d start (length xs) (length out) (Given s) (none-holds (writeRefusals d start (length xs) (length out)) (Given s) none),
+    )
+
+-- It has a record for each step, and its chain goes through the records from 1 to n, in this order.
+pub written-in-order : (d bound start : ℕ) (xs : List Step) (out : List ℕ) → warmWrite d bound start xs out .0 .refusal ≡ 0
+    → let s = take (warmWrite d bound start xs out .0 .length) (warmWrite d bound start xs out .1) in
+    (recordsOf s ≡ length xs) × (recordsOn s ≡ numbersFrom 1 (length xs))
+written-in-order d bound start xs out handed =
+    let (bytes, l) = the-sheet d bound start xs out handed in (
+      ap recordsOf bytes ∙ records-written d bound start xs (l .few),
+      ap recordsOn bytes ∙ chain-written d bound start xs (l .few),
+    )
+
+-- Where each number is as wide as its field, which the types of `warm_write` see to, the reader says of it the refusal of the first faulty step, 6 or 7, or else the
+-- same units, bound, start set and steps, tags included.
 pub written-reads-back : (d bound start : ℕ) (xs : List Step) (out : List ℕ) → bound < 2 ^ 16 → AllWide xs → warmWrite d bound start xs out .0 .refusal ≡ 0
     → campaignRead (take (warmWrite d bound start xs out .0 .length) (warmWrite d bound start xs out .1))
     ≡ unless (stepsCauses d 1 xs) (Given (record { units = d; bound = bound; start = start; steps = xs }))
 written-reads-back d bound start xs out narrow wide handed =
-    let s = sheetOf d bound start xs in
-    let exactly = demand-1-write d bound start xs out in
-    let none = no-first exactly (λ (r : Written × List ℕ). r .0 .refusal) (λ n p number e. omega (arith, number, e)) handed in
-    let l = limited d start (length xs) (length out) (Given s) (none-holds (writeRefusals d start (length xs) (length out)) (Given s) none) in
-    ap (λ (r : Written × List ℕ). campaignRead (take (r .0 .length) (r .1))) (exactly .replies none)
-    ∙ ap campaignRead (take-at s (drop (length s) out) (length s) refl)
-    ∙ written-reads d bound start xs (l .few) (l .some) (l .most) (l .own) narrow wide
+    let (bytes, l) = the-sheet d bound start xs out handed in
+    ap campaignRead bytes ∙ written-reads d bound start xs (l .few) (l .some) (l .most) (l .own) narrow wide
 
 -- ---- sheets that differ only in job tags and in records off the chain
 
