@@ -30,7 +30,7 @@ use Rattle.format.proofs.Records.{next-after}
 
 -- ---- a record
 
-pub record-length : (x : Step) (next : ℕ) → length (recordBytes x next) ≡ recordSize
+record-length : (x : Step) (next : ℕ) → length (recordBytes x next) ≡ recordSize
 unfolding recordBytes bytesOf
 record-length x next = refl
 
