@@ -1,8 +1,8 @@
 -- Laws on the digits of numbers: what the recursion does at each call, and how many digits there are.
-use mathlib.Core.Path.{_≡_, refl, sym, ap, _∙_}
+use mathlib.Core.Path.{_≡_, refl, ap, _∙_}
 use mathlib.Core.Bool.{Bool, true, false, cond}
-use mathlib.Core.List.{[], _∷_, _++_, append-assoc}
-use Prim.Native.Nat.{ℕ, zero, suc, _+_, _-_, _*_, _/_, _%_, _^_, _≤_, _<_}
+use mathlib.Core.List.{[], _∷_, _++_}
+use Prim.Native.Nat.{ℕ, zero, suc, _+_, _-_, _/_, _%_, _^_, _≤_, _<_}
 use native.Mathlib.Nat.{pow-suc}
 use native.Mathlib.Omega.{arith}
 use lib.Dec.{ltb}
@@ -11,9 +11,6 @@ use borrow.Author.Tests.{lt-ltb, le-ltb, ltb-true, ltb-false}
 use Rattle.promises.specs.Digits.{digit, decimalIn, decimal, hexadecimal}
 
 -- ---- decimal
-
-pub decimal-digit : (x : ℕ) → x < 10 → 48 + x ≡ digit x
-decimal-digit x h = sym (ap (λ (t : Bool). cond t (48 + x) (87 + x)) (lt-ltb x 10 h))
 
 -- any two numbers above x give the same digits
 enough : (k m x : ℕ) → x < k → x < m → decimalIn k x ≡ decimalIn m x
@@ -60,25 +57,12 @@ unfolding hexadecimal
 hexadecimal-length zero x = refl
 hexadecimal-length (suc k) x = omega (arith, length-append (hexadecimal k (x / 16)) (digit (x % 16) ∷ []), hexadecimal-length k (x / 16))
 
-pub hexadecimal-none : (bytes x : ℕ) → bytes ≡ 0 → hexadecimal (2 * bytes) x ≡ []
+pub hexadecimal-none : (k x : ℕ) → k ≡ 0 → hexadecimal k x ≡ []
 unfolding hexadecimal
-hexadecimal-none bytes x h = ap (λ (b : ℕ). hexadecimal (2 * b) x) h
+hexadecimal-none k x h = ap (λ (j : ℕ). hexadecimal j x) h
 
--- two digits more
-hexadecimal-pair : (k x : ℕ) → hexadecimal (suc (suc k)) x ≡ hexadecimal k (x / 256) ++ digit (x % 256 / 16) ∷ digit (x % 256 % 16) ∷ []
+pub hexadecimal-more : (k x : ℕ) → (k ≡ 0 → ⊥) → hexadecimal k x ≡ hexadecimal (k - 1) (x / 16) ++ digit (x % 16) ∷ []
 unfolding hexadecimal
-hexadecimal-pair k x =
-    let front : x / 16 / 16 ≡ x / 256 = omega arith in
-    let high : x / 16 % 16 ≡ x % 256 / 16 = omega arith in
-    let low : x % 16 ≡ x % 256 % 16 = omega arith in
-    append-assoc (hexadecimal k (x / 16 / 16)) (digit (x / 16 % 16) ∷ []) (digit (x % 16) ∷ [])
-    ∙ ap (λ (y : ℕ). hexadecimal k y ++ digit (x / 16 % 16) ∷ digit (x % 16) ∷ []) front
-    ∙ ap (λ (y : ℕ). hexadecimal k (x / 256) ++ digit y ∷ digit (x % 16) ∷ []) high
-    ∙ ap (λ (z : ℕ). hexadecimal k (x / 256) ++ digit (x % 256 / 16) ∷ digit z ∷ []) low
-
--- the last byte comes last
-pub hexadecimal-byte : (bytes x : ℕ) → (bytes ≡ 0 → ⊥)
-    → hexadecimal (2 * (bytes - 1)) (x / 256) ++ digit (x % 256 / 16) ∷ digit (x % 256 % 16) ∷ [] ≡ hexadecimal (2 * bytes) x
-hexadecimal-byte bytes x h =
-    let e : suc (suc (2 * (bytes - 1))) ≡ 2 * bytes = omega (arith, h) in
-    sym (hexadecimal-pair (2 * (bytes - 1)) x) ∙ ap (λ (k : ℕ). hexadecimal k x) e
+hexadecimal-more k x h =
+    let e : k ≡ suc (k - 1) = omega (arith, h) in
+    ap (λ (j : ℕ). hexadecimal j x) e

@@ -51,7 +51,7 @@ fn put_step_line(step: u32, set: u64, many: u32, out: &mut [u8], at: usize) -> u
 {
     let after_step = put_decimal(step, out, at);
     let after_blank = put_byte(b' ', out, after_step);
-    let after_set = put_hexadecimal(set, 8, out, after_blank);
+    let after_set = put_hexadecimal(set, 16, out, after_blank);
     let after_many = put_field(b" ", many, out, after_set);
     put_byte(b'\n', out, after_many)
 }

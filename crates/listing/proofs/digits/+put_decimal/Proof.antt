@@ -1,6 +1,7 @@
 -- `listing::digits::put_decimal`, which calls itself on the number without its last digit, meets its contract. The measure is the number.
 use mathlib.Core.Path.{sym, ap}
 use native.Mathlib.Omega.{arith}
+use borrow.Author.Needs.{needs}
 use lib.ListN.{length}
 use Rattle.listing.proofs.Numerals.{decimal-small, decimal-more, decimal-longer}
 use Rattle.writer.proofs.Places.{placed-then, placed-length, placed-as}
@@ -33,7 +34,7 @@ put-decimal-put-digit-requires : (t : ℕ) → put-decimal-lts.Need-put-digit-re
 ) (put-decimal-at t) put-decimal.Post
 put-decimal-put-digit-requires t c κs =
     let small = c .before .if1 .taken in
-    (small, omega (arith, c .before .before .before .pre .1, ap length (decimal-small (c .before .before .before .args .x) small)))
+    (omega (arith, small), omega (arith, c .before .before .before .pre .1, ap length (decimal-small (c .before .before .before .args .x) small)))
 
 put-decimal-same-length : (t : ℕ) → put-decimal-lts.Need-same-length (
   put-digit-reads.Asked,
@@ -60,6 +61,14 @@ put-decimal-put-decimal-requires : (t : ℕ) → put-decimal-lts.Need-put-decima
 put-decimal-put-decimal-requires t c κs =
     let large = c .before .if1 .left in
     (omega (arith, c .before .before .before .pre .0, large), omega (arith, c .before .before .before .pre .1, decimal-longer (c .before .before .before .args .x) large))
+
+put-decimal-cast-put-digit : (t : ℕ) → put-decimal-lts.Need-cast-put-digit (
+  put-digit-reads.Asked,
+  put-digit-reads.Learnt,
+  put-decimal-below t,
+  put-decimal.Post,
+) (put-decimal-at t) put-decimal.Post
+put-decimal-cast-put-digit t c = search needs
 
 put-decimal-put-digit-requires-2 : (t : ℕ) → put-decimal-lts.Need-put-digit-requires-2 (
   put-digit-reads.Asked,
@@ -101,6 +110,7 @@ pub +put-decimal-spec : {M : Type 1} → statement M
     (put-decimal-same-length t)
     (put-decimal-returns t)
     (put-decimal-put-decimal-requires t)
+    (put-decimal-cast-put-digit t)
     (put-decimal-put-digit-requires-2 t)
     (put-decimal-same-length-2 t)
     (put-decimal-returns-2 t)

@@ -1,16 +1,15 @@
--- `listing::digits::put_hexadecimal`, which calls itself on the number without its last byte, meets its contract. The measure is the number of bytes.
-use mathlib.Core.Path.{sym}
-use Prim.Native.Nat.{_*_, _-_, _/_}
+-- `listing::digits::put_hexadecimal`, which calls itself on the number without its last digit, meets its contract. The measure is the number of digits.
+use Prim.Native.Nat.{_-_, _/_}
 use native.Mathlib.Omega.{arith}
-use Rattle.listing.proofs.Numerals.{hexadecimal-none, hexadecimal-byte, hexadecimal-length}
-use Rattle.writer.proofs.Places.{placed-none, placed-then, placed-length, placed-as}
+use Rattle.listing.proofs.Numerals.{hexadecimal-none, hexadecimal-more, hexadecimal-length}
+use Rattle.writer.proofs.Places.{placed-none, placed-then, placed-length}
 use Prim.Native.Nat.{ℕ, _<_}
 use borrow.Fn.Kinds.{In}
 use borrow.Fn.PlainCycle.{Measures, is, falls, and}
 use Rattle.listing.proofs.digits.put_hexadecimal.Reads as put-hexadecimal
 use Rattle.listing.proofs.digits.put_hexadecimal.Kinds as put-hexadecimal-kinds
 use Rattle.listing.proofs.digits.+put_hexadecimal.Lts-put_hexadecimal as put-hexadecimal-lts
-use Rattle.listing.proofs.digits.put_pair.Reads as put-pair-reads
+use Rattle.listing.proofs.digits.put_digit.Reads as put-digit-reads
 use Rattle.listing.proofs.digits.+put_hexadecimal.{statement}
 use Rattle.listing.proofs.digits.+put_hexadecimal.Tie.{close}
 
@@ -36,16 +35,16 @@ put-hexadecimal-below t =
 put-hexadecimal-returns : (t : ℕ) → put-hexadecimal-lts.Need-returns (
   put-hexadecimal-below t,
   put-hexadecimal.Post,
-  put-pair-reads.Asked,
-  put-pair-reads.Learnt,
+  put-digit-reads.Asked,
+  put-digit-reads.Learnt,
 ) (put-hexadecimal-at t) put-hexadecimal.Post
-put-hexadecimal-returns t c = placed-as (sym (hexadecimal-none (c .before .before .args .bytes) (c .before .before .args .x) (c .if1 .taken))) (placed-none (omega (arith, c .before .before .pre .1)))
+put-hexadecimal-returns t c = rw (hexadecimal-none (c .before .before .args .digits) (c .before .before .args .x) (c .if1 .taken)) (placed-none (omega (arith, c .before .before .pre .1)))
 
 put-hexadecimal-sub-put-hexadecimal : (t : ℕ) → put-hexadecimal-lts.Need-sub-put-hexadecimal (
   put-hexadecimal-below t,
   put-hexadecimal.Post,
-  put-pair-reads.Asked,
-  put-pair-reads.Learnt,
+  put-digit-reads.Asked,
+  put-digit-reads.Learnt,
 ) (put-hexadecimal-at t) put-hexadecimal.Post
 put-hexadecimal-sub-put-hexadecimal t c = omega (arith, c .if1 .left)
 
@@ -53,51 +52,56 @@ put-hexadecimal-put-hexadecimal-requires :
     (t : ℕ) → put-hexadecimal-lts.Need-put-hexadecimal-requires (
       put-hexadecimal-below t,
       put-hexadecimal.Post,
-      put-pair-reads.Asked,
-      put-pair-reads.Learnt,
+      put-digit-reads.Asked,
+      put-digit-reads.Learnt,
     ) (put-hexadecimal-at t) put-hexadecimal.Post
 put-hexadecimal-put-hexadecimal-requires t c κs = (omega (arith, c .before .before .before .pre .0, c .before .if1 .left), omega (arith, c .before .before .before .pre .1, c .before .if1 .left))
 
-put-hexadecimal-put-pair-requires : (t : ℕ) → put-hexadecimal-lts.Need-put-pair-requires (
+put-hexadecimal-put-digit-requires : (t : ℕ) → put-hexadecimal-lts.Need-put-digit-requires (
   put-hexadecimal-below t,
   put-hexadecimal.Post,
-  put-pair-reads.Asked,
-  put-pair-reads.Learnt,
+  put-digit-reads.Asked,
+  put-digit-reads.Learnt,
 ) (put-hexadecimal-at t) put-hexadecimal.Post
-put-hexadecimal-put-pair-requires t c κs =
+put-hexadecimal-put-digit-requires t c κs =
     let front = c .before .before .before .put-hexadecimal .ensures in
     let x = c .before .before .before .before .before .before .before .args .x in
-    let bytes = c .before .before .before .before .before .before .before .args .bytes in
-    (omega arith, omega (arith, c .before .before .before .before .before .before .before .pre .1, c .before .before .before .before .before .if1 .left, front .ended, placed-length front, hexadecimal-length (2 * (bytes - 1)) (x / 256)))
+    let digits = c .before .before .before .before .before .before .before .args .digits in
+    (omega arith, omega (arith, c .before .before .before .before .before .before .before .pre .1, c .before .before .before .before .before .if1 .left, front .ended, placed-length front, hexadecimal-length (digits - 1) (x / 16)))
 
 put-hexadecimal-same-length : (t : ℕ) → put-hexadecimal-lts.Need-same-length (
   put-hexadecimal-below t,
   put-hexadecimal.Post,
-  put-pair-reads.Asked,
-  put-pair-reads.Learnt,
+  put-digit-reads.Asked,
+  put-digit-reads.Learnt,
 ) (put-hexadecimal-at t) put-hexadecimal.Post
-put-hexadecimal-same-length t c = placed-length (placed-then (c .before .before .before .before .before .before .put-hexadecimal .ensures) (c .before .before .put-pair .ensures))
+put-hexadecimal-same-length t c = placed-length (placed-then (c .before .before .before .before .before .before .put-hexadecimal .ensures) (c .before .before .put-digit .ensures))
 
 put-hexadecimal-returns-2 : (t : ℕ) → put-hexadecimal-lts.Need-returns-2 (
   put-hexadecimal-below t,
   put-hexadecimal.Post,
-  put-pair-reads.Asked,
-  put-pair-reads.Learnt,
+  put-digit-reads.Asked,
+  put-digit-reads.Learnt,
 ) (put-hexadecimal-at t) put-hexadecimal.Post
-put-hexadecimal-returns-2 t c = placed-as (hexadecimal-byte (c .before .before .before .before .before .before .before .before .before .before .args .bytes) (c .before .before .before .before .before .before .before .before .before .before .args .x) (c .before .before .before .before .before .before .before .before .if1 .left)) (placed-then (c .before .before .before .before .before .before .put-hexadecimal .ensures) (c .before .before .put-pair .ensures))
+put-hexadecimal-returns-2 t c =
+    let x = c .before .before .before .before .before .before .before .before .before .before .args .x in
+    let digits = c .before .before .before .before .before .before .before .before .before .before .args .digits in
+    let front = c .before .before .before .before .before .before .put-hexadecimal .ensures in
+    let last = c .before .before .put-digit .ensures in
+    rw (hexadecimal-more digits x (c .before .before .before .before .before .before .before .before .if1 .left)) (placed-then front last)
 
 pub +put-hexadecimal-spec : {M : Type 1} → statement M
 +put-hexadecimal-spec = close μ-put-hexadecimal λ t. put-hexadecimal-lts.spec (
   put-hexadecimal-below t,
   put-hexadecimal.Post,
-  put-pair-reads.Asked,
-  put-pair-reads.Learnt,
+  put-digit-reads.Asked,
+  put-digit-reads.Learnt,
 )
     (put-hexadecimal-at t)
     put-hexadecimal.Post
     (put-hexadecimal-returns t)
     (put-hexadecimal-sub-put-hexadecimal t)
     (put-hexadecimal-put-hexadecimal-requires t)
-    (put-hexadecimal-put-pair-requires t)
+    (put-hexadecimal-put-digit-requires t)
     (put-hexadecimal-same-length t)
     (put-hexadecimal-returns-2 t)

@@ -1,18 +1,20 @@
--- `listing::digits::put_digit` meets its contract.
-use mathlib.Core.Path.{ap}
-use mathlib.Core.List.{[], _∷_}
+-- `listing::digits::put_digit` meets its contract: that its table follows the rule of the digits is computed.
+use mathlib.Core.Path.{refl, ap}
+use mathlib.Core.List.{List, [], _∷_}
 use Prim.Native.Nat.{ℕ}
 use borrow.Author.Needs.{needs}
-use Rattle.listing.proofs.Numerals.{decimal-digit}
+use Rattle.promises.specs.Digits.{digit}
 use Rattle.writer.proofs.Places.{placed-as}
+use Rattle.listing.proofs.Table.{entry-at}
 use Rattle.listing.proofs.digits.put_digit.Statement.{statement}
 use Rattle.listing.proofs.digits.put_digit.Tie as tie
 
-cast-put-byte : tie.Need-cast-put-byte
-cast-put-byte c = search needs
+-- "0123456789abcdef"
+abbrev digits : List ℕ
+digits = 48 ∷ 49 ∷ 50 ∷ 51 ∷ 52 ∷ 53 ∷ 54 ∷ 55 ∷ 56 ∷ 57 ∷ 97 ∷ 98 ∷ 99 ∷ 100 ∷ 101 ∷ 102 ∷ []
 
-add-put-byte : tie.Need-add-put-byte
-add-put-byte c = search needs
+array-read-put-byte : tie.Need-array-read-put-byte
+array-read-put-byte c = search needs
 
 put-byte-requires : tie.Need-put-byte-requires
 put-byte-requires c κs = search needs
@@ -21,8 +23,10 @@ same-length : tie.Need-same-length
 same-length c = search needs
 
 returns : tie.Need-returns
-returns c = placed-as (ap (λ (v : ℕ). v ∷ []) (decimal-digit (c .before .before .before .before .before .args .x) (c .before .before .before .before .before .pre .0))) (c .before .before .put-byte .ensures)
+returns c =
+    let x = c .before .before .before .before .before .args .x in
+    let small = c .before .before .before .before .before .pre .0 in
+    placed-as (ap (λ (v : ℕ). v ∷ []) (entry-at digit digits refl x small)) (c .before .before .put-byte .ensures)
 
 pub put-digit-spec : {M : Type 1} → statement M
-put-digit-spec =
-    tie.close (tie.spec cast-put-byte add-put-byte put-byte-requires same-length returns)
+put-digit-spec = tie.close (tie.spec array-read-put-byte put-byte-requires same-length returns)
