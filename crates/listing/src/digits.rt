@@ -6,10 +6,10 @@ ghost use lib.ListN.{length};
 ghost use Rattle.promises.specs.Digits.{digit, decimal, hexadecimal};
 ghost use Rattle.writer.specs.Placed.{Placed};
 
-// The digits of decimal and hexadecimal numbers.
+// The sixteen digits, each at the place of its value.
 const DIGITS: [u8; 16] = *b"0123456789abcdef";
 
-// Puts a digit, and gives the place after it.
+// Puts the digit of a number below 16, and gives the place after it.
 fn put_digit(x: usize, out: &mut [u8], at: usize) -> usize
     requires { ⌜ x < 16 ⌝ }
     requires { ⌜ at < length (now out) ⌝ }
@@ -30,7 +30,7 @@ pub(crate) fn put_decimal(x: u32, out: &mut [u8], at: usize) -> usize
     put_digit((x % 10) as usize, out, last)
 }
 
-// Puts the last hexadecimal digits of a number, the highest first, and gives the place after them.
+// Puts the last `digits` hexadecimal digits of a number, the highest first, and gives the place after them.
 pub(crate) fn put_hexadecimal(x: u64, digits: usize, out: &mut [u8], at: usize) -> usize
     requires { ⌜ at + digits ≤ length (now out) ⌝ }
     ensures { λ r. ⌜ Placed (hexadecimal digits x) (now (out .entry)) at (now (out .exit)) r ⌝ }
