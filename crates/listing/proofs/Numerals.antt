@@ -37,6 +37,13 @@ decimal-more x h =
 pub decimal-longer : (x : ℕ) → 10 ≤ x → length (decimal x) ≡ length (decimal (x / 10)) + 1
 decimal-longer x h = omega (arith, ap length (decimal-more x h), length-append (decimal (x / 10)) (digit (x % 10) ∷ []))
 
+pub decimal-some : (x : ℕ) → 0 < length (decimal x)
+decimal-some x = go (ltb x 10) refl
+  where
+    go : (t : Bool) → ltb x 10 ≡ t → 0 < length (decimal x)
+    go true e = omega (arith, ap length (decimal-small x (ltb-true x 10 e)))
+    go false e = omega (arith, decimal-longer x (ltb-false x 10 e))
+
 -- a number below 10 ^ (k + 1) has at most k + 1 digits
 pub decimal-width : (k x : ℕ) → x < 10 ^ suc k → length (decimal x) ≤ suc k
 decimal-width zero x h = omega (arith, ap length (decimal-small x (omega (arith, h))))

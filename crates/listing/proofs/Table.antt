@@ -1,4 +1,4 @@
--- The rule of a table, tested over the whole table at once: its entry at k is the rule's value at k.
+-- A table and its rule: one test over the whole table, and the law that its entry at k is then the rule's value at k.
 use mathlib.Core.Path.{_≡_}
 use mathlib.Core.Bool.{Bool, true, _&&_, and-eq-true-iff}
 use mathlib.Core.List.{List, [], _∷_}

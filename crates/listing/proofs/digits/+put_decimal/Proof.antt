@@ -1,10 +1,8 @@
 -- `listing::digits::put_decimal`, which calls itself on the number without its last digit, meets its contract. The measure is the number.
-use mathlib.Core.Path.{sym, ap}
 use native.Mathlib.Omega.{arith}
 use borrow.Author.Needs.{needs}
-use lib.ListN.{length}
-use Rattle.listing.proofs.Numerals.{decimal-small, decimal-more, decimal-longer}
-use Rattle.writer.proofs.Places.{placed-then, placed-length, placed-as}
+use Rattle.listing.proofs.Numerals.{decimal-small, decimal-more, decimal-longer, decimal-some}
+use Rattle.writer.proofs.Places.{placed-then, placed-length}
 use Prim.Native.Nat.{ℕ, _<_}
 use borrow.Fn.Kinds.{In}
 use borrow.Fn.PlainCycle.{Measures, is, falls, and}
@@ -32,9 +30,7 @@ put-decimal-put-digit-requires : (t : ℕ) → put-decimal-lts.Need-put-digit-re
   put-decimal-below t,
   put-decimal.Post,
 ) (put-decimal-at t) put-decimal.Post
-put-decimal-put-digit-requires t c κs =
-    let small = c .before .if1 .taken in
-    (omega (arith, small), omega (arith, c .before .before .before .pre .1, ap length (decimal-small (c .before .before .before .args .x) small)))
+put-decimal-put-digit-requires t c κs = (omega (arith, c .before .if1 .taken), omega (arith, c .before .before .before .pre .1, decimal-some (c .before .before .before .args .x)))
 
 put-decimal-same-length : (t : ℕ) → put-decimal-lts.Need-same-length (
   put-digit-reads.Asked,
@@ -50,7 +46,7 @@ put-decimal-returns : (t : ℕ) → put-decimal-lts.Need-returns (
   put-decimal-below t,
   put-decimal.Post,
 ) (put-decimal-at t) put-decimal.Post
-put-decimal-returns t c = placed-as (sym (decimal-small (c .before .before .before .before .before .before .args .x) (c .before .before .before .before .if1 .taken))) (c .before .before .put-digit .ensures)
+put-decimal-returns t c = rw (decimal-small (c .before .before .before .before .before .before .args .x) (c .before .before .before .before .if1 .taken)) (c .before .before .put-digit .ensures)
 
 put-decimal-put-decimal-requires : (t : ℕ) → put-decimal-lts.Need-put-decimal-requires (
   put-digit-reads.Asked,
@@ -95,7 +91,10 @@ put-decimal-returns-2 : (t : ℕ) → put-decimal-lts.Need-returns-2 (
   put-decimal-below t,
   put-decimal.Post,
 ) (put-decimal-at t) put-decimal.Post
-put-decimal-returns-2 t c = placed-as (sym (decimal-more (c .before .before .before .before .before .before .before .before .before .before .args .x) (c .before .before .before .before .before .before .before .before .if1 .left))) (placed-then (c .before .before .before .before .before .before .put-decimal .ensures) (c .before .before .put-digit2 .ensures))
+put-decimal-returns-2 t c =
+    let front = c .before .before .before .before .before .before .put-decimal .ensures in
+    let last = c .before .before .put-digit2 .ensures in
+    rw (decimal-more (c .before .before .before .before .before .before .before .before .before .before .args .x) (c .before .before .before .before .before .before .before .before .if1 .left)) (placed-then front last)
 
 pub +put-decimal-spec : {M : Type 1} → statement M
 +put-decimal-spec = close μ-put-decimal λ t. put-decimal-lts.spec (

@@ -64,10 +64,9 @@ put-hexadecimal-put-digit-requires : (t : ℕ) → put-hexadecimal-lts.Need-put-
   put-digit-reads.Learnt,
 ) (put-hexadecimal-at t) put-hexadecimal.Post
 put-hexadecimal-put-digit-requires t c κs =
+    let k = c .before .before .before .before .before .before .before in
     let front = c .before .before .before .put-hexadecimal .ensures in
-    let x = c .before .before .before .before .before .before .before .args .x in
-    let digits = c .before .before .before .before .before .before .before .args .digits in
-    (omega arith, omega (arith, c .before .before .before .before .before .before .before .pre .1, c .before .before .before .before .before .if1 .left, front .ended, placed-length front, hexadecimal-length (digits - 1) (x / 16)))
+    (omega arith, omega (arith, k .pre .1, c .before .before .before .before .before .if1 .left, front .ended, placed-length front, hexadecimal-length (k .args .digits - 1) (k .args .x / 16)))
 
 put-hexadecimal-same-length : (t : ℕ) → put-hexadecimal-lts.Need-same-length (
   put-hexadecimal-below t,
@@ -84,11 +83,10 @@ put-hexadecimal-returns-2 : (t : ℕ) → put-hexadecimal-lts.Need-returns-2 (
   put-digit-reads.Learnt,
 ) (put-hexadecimal-at t) put-hexadecimal.Post
 put-hexadecimal-returns-2 t c =
-    let x = c .before .before .before .before .before .before .before .before .before .before .args .x in
-    let digits = c .before .before .before .before .before .before .before .before .before .before .args .digits in
+    let k = c .before .before .before .before .before .before .before .before .before .before in
     let front = c .before .before .before .before .before .before .put-hexadecimal .ensures in
     let last = c .before .before .put-digit .ensures in
-    rw (hexadecimal-more digits x (c .before .before .before .before .before .before .before .before .if1 .left)) (placed-then front last)
+    rw (hexadecimal-more (k .args .digits) (k .args .x) (c .before .before .before .before .before .before .before .before .if1 .left)) (placed-then front last)
 
 pub +put-hexadecimal-spec : {M : Type 1} → statement M
 +put-hexadecimal-spec = close μ-put-hexadecimal λ t. put-hexadecimal-lts.spec (

@@ -9,9 +9,9 @@ use Rattle.listing.proofs.Table.{entry-at}
 use Rattle.listing.proofs.digits.put_digit.Statement.{statement}
 use Rattle.listing.proofs.digits.put_digit.Tie as tie
 
--- "0123456789abcdef"
-abbrev digits : List ℕ
-digits = 48 ∷ 49 ∷ 50 ∷ 51 ∷ 52 ∷ 53 ∷ 54 ∷ 55 ∷ 56 ∷ 57 ∷ 97 ∷ 98 ∷ 99 ∷ 100 ∷ 101 ∷ 102 ∷ []
+-- the table of the code, "0123456789abcdef", in numbers
+abbrev table : List ℕ
+table = 48 ∷ 49 ∷ 50 ∷ 51 ∷ 52 ∷ 53 ∷ 54 ∷ 55 ∷ 56 ∷ 57 ∷ 97 ∷ 98 ∷ 99 ∷ 100 ∷ 101 ∷ 102 ∷ []
 
 array-read-put-byte : tie.Need-array-read-put-byte
 array-read-put-byte c = search needs
@@ -24,9 +24,8 @@ same-length c = search needs
 
 returns : tie.Need-returns
 returns c =
-    let x = c .before .before .before .before .before .args .x in
-    let small = c .before .before .before .before .before .pre .0 in
-    placed-as (ap (λ (v : ℕ). v ∷ []) (entry-at digit digits refl x small)) (c .before .before .put-byte .ensures)
+    let k = c .before .before .before .before .before in
+    placed-as (ap (λ (v : ℕ). v ∷ []) (entry-at digit table refl (k .args .x) (k .pre .0))) (c .before .before .put-byte .ensures)
 
 pub put-digit-spec : {M : Type 1} → statement M
 put-digit-spec = tie.close (tie.spec array-read-put-byte put-byte-requires same-length returns)
