@@ -37,6 +37,7 @@ decimal-more x h =
 pub decimal-longer : (x : ℕ) → 10 ≤ x → length (decimal x) ≡ length (decimal (x / 10)) + 1
 decimal-longer x h = omega (arith, ap length (decimal-more x h), length-append (decimal (x / 10)) (digit (x % 10) ∷ []))
 
+-- each number has a digit
 pub decimal-some : (x : ℕ) → 0 < length (decimal x)
 decimal-some x = go (ltb x 10) refl
   where
@@ -68,6 +69,7 @@ pub hexadecimal-none : (k x : ℕ) → k ≡ 0 → hexadecimal k x ≡ []
 unfolding hexadecimal
 hexadecimal-none k x h = ap (λ (j : ℕ). hexadecimal j x) h
 
+-- the last digit comes last
 pub hexadecimal-more : (k x : ℕ) → (k ≡ 0 → ⊥) → hexadecimal k x ≡ hexadecimal (k - 1) (x / 16) ++ digit (x % 16) ∷ []
 unfolding hexadecimal
 hexadecimal-more k x h =

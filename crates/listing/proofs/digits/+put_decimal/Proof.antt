@@ -24,85 +24,44 @@ abbrev put-decimal-below : ℕ → In 1 put-decimal-kinds.ps
 put-decimal-below t =
     and 1 put-decimal-kinds.ps (falls 1 put-decimal-kinds.ps _<_ μ-put-decimal t) put-decimal.Pre
 
-put-decimal-put-digit-requires : (t : ℕ) → put-decimal-lts.Need-put-digit-requires (
-  put-digit-reads.Asked,
-  put-digit-reads.Learnt,
-  put-decimal-below t,
-  put-decimal.Post,
-) (put-decimal-at t) put-decimal.Post
+-- what the calls in it ask and give, where the measure of a call to itself is below t
+abbrev claims : ℕ → put-decimal-lts.Claims
+claims t = (put-digit-reads.Asked, put-digit-reads.Learnt, put-decimal-below t, put-decimal.Post)
+
+put-decimal-put-digit-requires : (t : ℕ) → put-decimal-lts.Need-put-digit-requires (claims t) (put-decimal-at t) put-decimal.Post
 put-decimal-put-digit-requires t c κs = (omega (arith, c .before .if1 .taken), omega (arith, c .before .before .before .pre .1, decimal-some (c .before .before .before .args .x)))
 
-put-decimal-same-length : (t : ℕ) → put-decimal-lts.Need-same-length (
-  put-digit-reads.Asked,
-  put-digit-reads.Learnt,
-  put-decimal-below t,
-  put-decimal.Post,
-) (put-decimal-at t) put-decimal.Post
+put-decimal-same-length : (t : ℕ) → put-decimal-lts.Need-same-length (claims t) (put-decimal-at t) put-decimal.Post
 put-decimal-same-length t c = placed-length (c .before .before .put-digit .ensures)
 
-put-decimal-returns : (t : ℕ) → put-decimal-lts.Need-returns (
-  put-digit-reads.Asked,
-  put-digit-reads.Learnt,
-  put-decimal-below t,
-  put-decimal.Post,
-) (put-decimal-at t) put-decimal.Post
+put-decimal-returns : (t : ℕ) → put-decimal-lts.Need-returns (claims t) (put-decimal-at t) put-decimal.Post
 put-decimal-returns t c = rw (decimal-small (c .before .before .before .before .before .before .args .x) (c .before .before .before .before .if1 .taken)) (c .before .before .put-digit .ensures)
 
-put-decimal-put-decimal-requires : (t : ℕ) → put-decimal-lts.Need-put-decimal-requires (
-  put-digit-reads.Asked,
-  put-digit-reads.Learnt,
-  put-decimal-below t,
-  put-decimal.Post,
-) (put-decimal-at t) put-decimal.Post
+put-decimal-put-decimal-requires : (t : ℕ) → put-decimal-lts.Need-put-decimal-requires (claims t) (put-decimal-at t) put-decimal.Post
 put-decimal-put-decimal-requires t c κs =
     let large = c .before .if1 .left in
     (omega (arith, c .before .before .before .pre .0, large), omega (arith, c .before .before .before .pre .1, decimal-longer (c .before .before .before .args .x) large))
 
-put-decimal-cast-put-digit : (t : ℕ) → put-decimal-lts.Need-cast-put-digit (
-  put-digit-reads.Asked,
-  put-digit-reads.Learnt,
-  put-decimal-below t,
-  put-decimal.Post,
-) (put-decimal-at t) put-decimal.Post
+put-decimal-cast-put-digit : (t : ℕ) → put-decimal-lts.Need-cast-put-digit (claims t) (put-decimal-at t) put-decimal.Post
 put-decimal-cast-put-digit t c = search needs
 
-put-decimal-put-digit-requires-2 : (t : ℕ) → put-decimal-lts.Need-put-digit-requires-2 (
-  put-digit-reads.Asked,
-  put-digit-reads.Learnt,
-  put-decimal-below t,
-  put-decimal.Post,
-) (put-decimal-at t) put-decimal.Post
+put-decimal-put-digit-requires-2 : (t : ℕ) → put-decimal-lts.Need-put-digit-requires-2 (claims t) (put-decimal-at t) put-decimal.Post
 put-decimal-put-digit-requires-2 t c κs =
     let large = c .before .before .before .before .before .if1 .left in
     let front = c .before .before .before .put-decimal .ensures in
     (omega arith, omega (arith, c .before .before .before .before .before .before .before .pre .1, decimal-longer (c .before .before .before .before .before .before .before .args .x) large, front .ended, placed-length front))
 
-put-decimal-same-length-2 : (t : ℕ) → put-decimal-lts.Need-same-length-2 (
-  put-digit-reads.Asked,
-  put-digit-reads.Learnt,
-  put-decimal-below t,
-  put-decimal.Post,
-) (put-decimal-at t) put-decimal.Post
+put-decimal-same-length-2 : (t : ℕ) → put-decimal-lts.Need-same-length-2 (claims t) (put-decimal-at t) put-decimal.Post
 put-decimal-same-length-2 t c = placed-length (placed-then (c .before .before .before .before .before .before .put-decimal .ensures) (c .before .before .put-digit2 .ensures))
 
-put-decimal-returns-2 : (t : ℕ) → put-decimal-lts.Need-returns-2 (
-  put-digit-reads.Asked,
-  put-digit-reads.Learnt,
-  put-decimal-below t,
-  put-decimal.Post,
-) (put-decimal-at t) put-decimal.Post
+put-decimal-returns-2 : (t : ℕ) → put-decimal-lts.Need-returns-2 (claims t) (put-decimal-at t) put-decimal.Post
 put-decimal-returns-2 t c =
     let front = c .before .before .before .before .before .before .put-decimal .ensures in
     let last = c .before .before .put-digit2 .ensures in
     rw (decimal-more (c .before .before .before .before .before .before .before .before .before .before .args .x) (c .before .before .before .before .before .before .before .before .if1 .left)) (placed-then front last)
 
 pub +put-decimal-spec : {M : Type 1} → statement M
-+put-decimal-spec = close μ-put-decimal λ t. put-decimal-lts.spec (
-  put-digit-reads.Asked,
-  put-digit-reads.Learnt,
-  put-decimal-below t,
-  put-decimal.Post,
-)
++put-decimal-spec = close μ-put-decimal λ t. put-decimal-lts.spec (claims t)
     (put-decimal-at t)
     put-decimal.Post
     (put-decimal-put-digit-requires t)
