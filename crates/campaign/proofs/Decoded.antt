@@ -1,11 +1,13 @@
--- The words and the plan of a sheet that was read: what is lent of them, and the steps that the words are.
+-- The words and the plan of a sheet that was read: what is lent of them, and the steps that the words are. Those have the sizes of their feasible sets in the
+-- place of their two numbers.
 use mathlib.Core.Path.{_≡_, ap, _∙_}
 use mathlib.Core.List.{List, map}
 use Prim.Native.Nat.{ℕ, _-_, _*_, _≤_}
 use native.Mathlib.Omega.{arith}
 use lib.ListN.{length, length-map, take}
 use lib.Seq.{sets}
-use Rattle.plans.specs.Rows.{rowsOf, stepsIn, Rows}
+use Rattle.plans.specs.declared.Limits.{Limits}
+use Rattle.plans.specs.Rows.{rowsOf, stepsIn, sized, Rows}
 use Rattle.plans.proofs.Laid.{rows-length, rows-steps, rows-laid, sets-first, sets-part}
 use Rattle.format.specs.declared.Summary.{Summary}
 use Rattle.format.specs.Answer.{Given}
@@ -18,31 +20,35 @@ use Rattle.promises.specs.Plan.{supportOn}
 use Rattle.promises.proofs.Plans.{plan-length-on}
 use Rattle.promises.proofs.Read.{was-opened, many-steps}
 
+-- the steps that the words are
+abbrev pub sizedOn : List ℕ → List Limits
+sizedOn s = map sized (limitsOn s)
+
 module _ (s : List ℕ) {x : Summary} (e : summaryRead s ≡ Given x) where
   -- as many steps as the summary says, and four words for each
-  pub many-limits : length (limitsOn s) ≡ x .steps
-  many-limits = length-map (stepsOf s) limitsOf ∙ many-steps s e
+  pub many-limits : length (sizedOn s) ≡ x .steps
+  many-limits = length-map (limitsOn s) sized ∙ length-map (stepsOf s) limitsOf ∙ many-steps s e
 
-  pub rows-many : length (rowsOf (limitsOn s)) ≡ 4 * x .steps
-  rows-many = rows-length (limitsOn s) ∙ ap (λ (k : ℕ). 4 * k) many-limits
+  pub rows-many : length (rowsOf (sizedOn s)) ≡ 4 * x .steps
+  rows-many = rows-length (sizedOn s) ∙ ap (λ (k : ℕ). 4 * k) many-limits
 
   -- the words are those of its steps
-  pub rows-decoded : rowsOf (map limitsOf (stepsFrom s 0 (x .steps))) ≡ rowsOf (limitsOn s)
-  rows-decoded = ap (λ xs. rowsOf (map limitsOf xs)) (was-opened s e .steps)
+  pub rows-decoded : rowsOf (map sized (map limitsOf (stepsFrom s 0 (x .steps)))) ≡ rowsOf (sizedOn s)
+  rows-decoded = ap (λ xs. rowsOf (map sized (map limitsOf xs))) (was-opened s e .steps)
 
-  pub rows-are : stepsIn (rowsOf (limitsOn s)) ≡ limitsOn s
-  rows-are = rows-steps (limitsOn s)
+  pub rows-are : stepsIn (rowsOf (sizedOn s)) ≡ sizedOn s
+  rows-are = rows-steps (sizedOn s)
 
-  pub rows-sound : Rows (rowsOf (limitsOn s))
-  rows-sound = rows-laid (limitsOn s) (omega (arith, many-limits, was-opened s e .few))
+  pub rows-sound : Rows (rowsOf (sizedOn s))
+  rows-sound = rows-laid (sizedOn s) (omega (arith, many-limits, was-opened s e .few))
 
   -- what is lent of the words that were filled
-  pub lent-words : (before : List ℕ) {rows : List ℕ} → rows ≡ sets before 0 (rowsOf (limitsOn s)) → 4 * x .steps ≤ length before
-      → take (4 * x .steps - 0) rows ≡ rowsOf (limitsOn s)
-  lent-words before filled room = ap (take (4 * x .steps - 0)) filled ∙ sets-part (rowsOf (limitsOn s)) before (4 * x .steps) rows-many room
+  pub lent-words : (before : List ℕ) {rows : List ℕ} → rows ≡ sets before 0 (rowsOf (sizedOn s)) → 4 * x .steps ≤ length before
+      → take (4 * x .steps - 0) rows ≡ rowsOf (sizedOn s)
+  lent-words before filled room = ap (take (4 * x .steps - 0)) filled ∙ sets-part (rowsOf (sizedOn s)) before (4 * x .steps) rows-many room
 
-  pub lent-rows : (before : List ℕ) {rows : List ℕ} → rows ≡ sets before 0 (rowsOf (map limitsOf (stepsFrom s 0 (x .steps)))) → 4 * x .steps ≤ length before
-      → take (4 * x .steps - 0) rows ≡ rowsOf (limitsOn s)
+  pub lent-rows : (before : List ℕ) {rows : List ℕ} → rows ≡ sets before 0 (rowsOf (map sized (map limitsOf (stepsFrom s 0 (x .steps))))) → 4 * x .steps ≤ length before
+      → take (4 * x .steps - 0) rows ≡ rowsOf (sizedOn s)
   lent-rows before filled = lent-words before (filled ∙ ap (sets before 0) rows-decoded)
 
   pub plan-long : length (supportOn s) ≡ x .steps

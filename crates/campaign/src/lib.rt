@@ -1,5 +1,5 @@
-// A campaign that was read from a sheet: its steps are decoded once, and planned, or a plan is checked on them. Nothing here is an open entry of the
-// library.
+// A campaign that was read from a sheet: its steps are decoded once, with the sizes of their feasible sets in the place of their two numbers, and planned,
+// or a plan is checked on them. Nothing here is an open entry of the library.
 use format::Summary;
 use plans::Limits;
 use sheet::decode::decode;
@@ -7,11 +7,12 @@ use switch::check::Checked;
 use switch::check::check_plan;
 use switch::plan::plan;
 ghost use mathlib.Core.Path.{_≡_};
+ghost use mathlib.Core.List.{map};
 ghost use Prim.Native.Nat.{_*_, _≤_};
 ghost use lib.ListN.{length};
 ghost use lib.Seq.{sets};
 ghost use Rattle.plans.specs.Plans.{allows, isFeasible};
-ghost use Rattle.plans.specs.Rows.{rowSize, rowsOf};
+ghost use Rattle.plans.specs.Rows.{rowSize, rowsOf, sized};
 ghost use Rattle.plans.specs.Switch.{total};
 ghost use Rattle.format.specs.Answer.{Given};
 ghost use Rattle.format.specs.Format.{startOf};
@@ -24,7 +25,7 @@ pub fn plan_read(sheet: &[u8], x: Summary, rows: &mut [u64], out: &mut [u64]) ->
     requires { ⌜ summaryRead (now sheet) ≡ Given x ⌝ }
     requires { ⌜ rowSize * x .steps ≤ length (now rows) ⌝ }
     requires { ⌜ x .steps ≤ length (now out) ⌝ }
-    ensures { λ r. ⌜ now (rows .exit) ≡ sets (now (rows .entry)) 0 (rowsOf (limitsOn (now (sheet .entry)))) ⌝ }
+    ensures { λ r. ⌜ now (rows .exit) ≡ sets (now (rows .entry)) 0 (rowsOf (map sized (limitsOn (now (sheet .entry))))) ⌝ }
     ensures { λ r. ⌜ now (out .exit) ≡ sets (now (out .entry)) 0 (supportOn (now (sheet .entry))) ⌝ }
     ensures { λ r. ⌜ r ≡ total (startOf (now (sheet .entry))) (supportOn (now (sheet .entry))) ⌝ }
 {

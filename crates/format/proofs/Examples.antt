@@ -1,7 +1,7 @@
 -- The worked examples of the reader hold: each row is computed from the definitions.
 use mathlib.Core.Path.{refl}
 use lib.Count.{ones, onesIn}
-use Rattle.units.specs.Limits.{hasFeasible}
+use Rattle.units.specs.Limits.{feasibleSizes, hasFeasible}
 use Rattle.units.specs.Sets.{intersection, isSubset, size, hasUnitFrom}
 use Rattle.format.specs.Answer.{unless}
 use Rattle.format.specs.Chain.{following, chainOf, isIn, linkCauses}
@@ -12,7 +12,7 @@ use Rattle.format.specs.Reading.{same, stepsCauses, readCauses, campaign
 use Rattle.format.specs.Writing.{headerBytes, recordBytes, linkIn, recordsAfter, sheetOf}
 
 pub readings-hold : All faults × (All pairsOfFaults × All campaigns)
-unfolding hasFeasible intersection isSubset size hasUnitFrom unless following chainOf isIn linkCauses bytesOf headerBytes recordBytes linkIn recordsAfter sheetOf stepOf nextOf byteAt u16At u32At u64At same stepsCauses readCauses campaignOf ones onesIn faults pairsOfFaults campaigns
+unfolding feasibleSizes hasFeasible intersection isSubset size hasUnitFrom unless following chainOf isIn linkCauses bytesOf headerBytes recordBytes linkIn recordsAfter sheetOf stepOf nextOf byteAt u16At u32At u64At same stepsCauses readCauses campaignOf ones onesIn faults pairsOfFaults campaigns
 readings-hold = (
   (refl, (refl, (refl, (refl, (refl, (refl, (refl, (refl, (refl, (refl, (refl, (refl, (refl, (refl, (refl, (refl, tt)))))))))))))))),
   ((refl, (refl, (refl, (refl, (refl, (refl, (refl, (refl, (refl, (refl, (refl, (refl, tt)))))))))))), (refl, (refl, tt))),

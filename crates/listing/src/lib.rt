@@ -1,7 +1,8 @@
-// The listing of a sheet: its plan as text, or the refusal that it gets. `list_plan` is open to callers, and nothing else; docs/FORMAT.md has the
-// text.
+// The listings of a sheet: its plan as text, or how many units may be on in each step, or the refusal that it gets. `list_plan` and `list_sizes` are open to
+// callers, and nothing else; docs/FORMAT.md has the texts.
 mod digits;
 mod lines;
+mod sizes;
 
 use campaign::plan_read;
 use format::Summary;
@@ -14,6 +15,8 @@ use lines::put_step_lines;
 use lines::put_total_line;
 use sheet::ReadAnswer;
 use sheet::Sheet;
+use sizes::SIZES_LINE;
+use sizes::put_sizes_lines;
 ghost use mathlib.Core.Path.{_≡_};
 ghost use Prim.Native.Nat.{_*_, _≤_};
 ghost use lib.ListN.{length, take};
@@ -21,12 +24,15 @@ ghost use Rattle.plans.specs.Rows.{rowSize};
 ghost use Rattle.format.specs.Answer.{Given};
 ghost use Rattle.format.specs.Format.{recordLimit};
 ghost use Rattle.format.specs.Stages.{summaryRead};
-ghost use Rattle.promises.specs.Listing.{planLines, listing, listPlan};
+ghost use Rattle.promises.specs.Listing.{planLines, listing, listPlan, listSizes};
 ghost use Rattle.listing.specs.Room.{longestListing};
 ghost use Rattle.writer.specs.Placed.{Placed};
 
 // No listing is longer: a first line, a line for each step of the longest sheet, and a last line.
 pub const LONGEST: usize = FIRST_LINE + Sheet::RECORD_LIMIT * STEP_LINE + TOTAL_LINE;
+
+// No listing of sizes is longer: a line for each step of the longest sheet.
+pub const LONGEST_SIZES: usize = Sheet::RECORD_LIMIT * SIZES_LINE;
 
 // Puts the lines of a plan, which stands in the first places of `sets`, with its total, and gives their length.
 fn put_plan(x: Summary, sets: &[u64], total: u32, out: &mut [u8]) -> usize
@@ -73,5 +79,15 @@ pub fn list_plan(sheet: &[u8], out: &mut [u8; LONGEST]) -> usize
             let mut sets = [0u64; Sheet::RECORD_LIMIT];
             list_read(sheet, x, &mut rows, &mut sets, out)
         }
+    }
+}
+
+// Puts the sizes of the steps of any bytes into the first places of the output, and gives the length of that text.
+pub fn list_sizes(sheet: &[u8], out: &mut [u8; LONGEST_SIZES]) -> usize
+    ensures { λ r. ⌜ (r, now (out .exit)) ≡ listSizes (now (sheet .entry)) (now (out .entry)) ⌝ }
+{
+    match sheet::open::read(sheet) {
+        ReadAnswer::Refused(x) => put_refused_line(x.number, x.place, out, 0),
+        ReadAnswer::Read(x) => put_sizes_lines(sheet, x.steps, out),
     }
 }

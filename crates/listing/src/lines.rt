@@ -22,7 +22,7 @@ pub(crate) const STEP_LINE: usize = 24;
 pub(crate) const TOTAL_LINE: usize = 17;
 
 // A text and a number.
-fn put_field(text: &[u8], x: u32, out: &mut [u8], at: usize) -> usize
+pub(crate) fn put_field(text: &[u8], x: u32, out: &mut [u8], at: usize) -> usize
     requires { ⌜ at + (length (now text) + length (decimal x)) ≤ length (now out) ⌝ }
     ensures { λ r. ⌜ Placed (now (text .entry) ++ decimal x) (now (out .entry)) at (now (out .exit)) r ⌝ }
 {

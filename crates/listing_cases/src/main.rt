@@ -1,5 +1,9 @@
-// Tries the listing on sheets whose text is written out by hand (a refusal for the bound, no bytes, no step, and a full sheet with numbers of the most
-// digits), and writes how often it was right.
+// Tries the listings on sheets whose text is written out by hand (no bytes, no step, a bound that is too small, a chain that leads back, an input that is too
+// long, and full sheets with numbers of the most digits), and writes how often they were right.
+mod lines;
+
+use lines::has_lines;
+use lines::is_at;
 use sheet::Sheet;
 use trials::layout::Head;
 use trials::layout::Limits;
@@ -11,11 +15,8 @@ use trials::layout::put_limits;
 use trials::layout::put_link;
 use trials::layout::put_most_steps;
 use trials::tally::Tally;
-ghost use Prim.Native.Nat.{_+_, _*_, _≤_, _<_};
-ghost use lib.ListN.{length};
+ghost use Prim.Native.Nat.{_+_, _≤_, _<_};
 ghost use Rattle.format.specs.Format.{recordSize, recordLimit, longest};
-
-type Text = [u8; listing::LONGEST];
 
 // Whether the listing of the first bytes is that text.
 fn has_listing(bytes: &Space, length: usize, expected: &[u8]) -> bool
@@ -27,13 +28,30 @@ fn has_listing(bytes: &Space, length: usize, expected: &[u8]) -> bool
     check::same(&text[..count], expected)
 }
 
+// Whether their listing of sizes is that text.
+fn has_sizes(bytes: &Space, length: usize, expected: &[u8]) -> bool
+    requires { ⌜ length ≤ longest + recordSize ⌝ }
+{
+    let whole: &[u8] = bytes;
+    let mut text = [0u8; listing::LONGEST_SIZES];
+    let count = listing::list_sizes(&whole[0..length], &mut text);
+    check::same(&text[..count], expected)
+}
+
+// Tries the first bytes, of which both texts are given.
+fn try_both(bytes: &Space, length: usize, plan: &[u8], sizes: &[u8]) -> Tally
+    requires { ⌜ length ≤ longest + recordSize ⌝ }
+{
+    Tally::of(has_listing(bytes, length, plan)).plus(Tally::of(has_sizes(bytes, length, sizes)))
+}
+
 // Tries no bytes at all.
 fn try_nothing() -> Tally {
     let bytes = [0u8; SPACE];
-    Tally::of(has_listing(&bytes, 0, b"refused 1 0\n"))
+    try_both(&bytes, 0, b"refused 1 0\n", b"refused 1 0\n")
 }
 
-// Tries a sheet without a step.
+// Tries a sheet without a step, which has no size.
 fn try_no_step() -> Tally {
     let mut bytes = [0u8; SPACE];
     put_head(
@@ -45,7 +63,12 @@ fn try_no_step() -> Tally {
             start: 0,
         },
     );
-    Tally::of(has_listing(&bytes, length_of(0), b"units 1 steps 0 bound 0\ntotal 0\n"))
+    try_both(
+        &bytes,
+        length_of(0),
+        b"units 1 steps 0 bound 0\ntotal 0\n",
+        b"",
+    )
 }
 
 // Puts into record j a step that needs one of three units and allows two, and its link.
@@ -66,11 +89,10 @@ fn put_run(bytes: &mut Space, j: usize, lower: u64, next: usize)
     put_link(bytes, j, next);
 }
 
-// Tries four runs that need three switches, with a bound of two (bench B2).
-fn try_bound() -> Tally {
-    let mut bytes = [0u8; SPACE];
+// Puts four runs, which need three switches, with a bound of two (bench B2).
+fn put_runs(bytes: &mut Space) {
     put_head(
-        &mut bytes,
+        bytes,
         Head {
             units: 3,
             records: 4,
@@ -78,15 +100,48 @@ fn try_bound() -> Tally {
             start: 0,
         },
     );
-    put_link(&mut bytes, 0, 1);
-    put_run(&mut bytes, 1, 1, 2);
-    put_run(&mut bytes, 2, 2, 3);
-    put_run(&mut bytes, 3, 4, 4);
-    put_run(&mut bytes, 4, 1, 0);
-    Tally::of(has_listing(&bytes, length_of(4), b"refused 9 3\n"))
+    put_link(bytes, 0, 1);
+    put_run(bytes, 1, 1, 2);
+    put_run(bytes, 2, 2, 3);
+    put_run(bytes, 3, 4, 4);
+    put_run(bytes, 4, 1, 0);
 }
 
-// ---- a full sheet: the two halves of 64 units are on in turns, so that each step has 32 switches
+// Tries them: the sizes are listed whatever the bound is.
+fn try_bound() -> Tally {
+    let mut bytes = [0u8; SPACE];
+    put_runs(&mut bytes);
+    try_both(
+        &bytes,
+        length_of(4),
+        b"refused 9 3\n",
+        b"1 1 2\n2 1 2\n3 1 2\n4 1 2\n",
+    )
+}
+
+// Tries them with a link from the last step back to the second.
+fn try_link_back() -> Tally {
+    let mut bytes = [0u8; SPACE];
+    put_runs(&mut bytes);
+    put_link(&mut bytes, 4, 2);
+    try_both(&bytes, length_of(4), b"refused 5 4\n", b"refused 5 4\n")
+}
+
+// ---- full sheets
+
+// Puts 64 units and 256 steps, with two kinds of limits in turns.
+fn put_most(bytes: &mut Space, odd: Limits, even: Limits) {
+    put_head(
+        bytes,
+        Head {
+            units: Sheet::UNIT_LIMIT as usize,
+            records: Sheet::RECORD_LIMIT,
+            bound: u16::MAX as usize,
+            start: 0,
+        },
+    );
+    put_most_steps(bytes, odd, even);
+}
 
 // The limits of a step that allows one set.
 fn just(set: u64) -> Limits {
@@ -98,107 +153,79 @@ fn just(set: u64) -> Limits {
     }
 }
 
-fn put_halves(bytes: &mut Space) {
-    put_head(
-        bytes,
-        Head {
-            units: Sheet::UNIT_LIMIT as usize,
-            records: Sheet::RECORD_LIMIT,
-            bound: u16::MAX as usize,
-            start: 0,
-        },
+// Whether a text is the listing of the full sheet of two halves: 31 bytes in the first line, 9 lines of 22, 90 of 23 and 157 of 24, and 11 bytes in the last.
+fn is_wide_listing(text: &[u8]) -> bool {
+    let first = is_at(text, 0, b"units 64 steps 256 bound 65535\n");
+    let steps = has_lines(
+        text,
+        31,
+        b" 00000000ffffffff 32\n",
+        b" ffffffff00000000 32\n",
     );
-    put_most_steps(bytes, just(u64::MAX >> 32), just(u64::MAX << 32));
+    text.len() == 6078 && first && steps && is_at(text, 6067, b"total 8192\n")
 }
 
-// Whether the line stands in the text at that place.
-fn is_at(text: &Text, at: usize, line: &[u8]) -> bool
-    requires { ⌜ at ≤ 31 + 24 * recordLimit ⌝ }
-    requires { ⌜ length (now line) ≤ 31 ⌝ }
-{
-    let whole: &[u8] = text;
-    check::same(&whole[at..at + line.len()], line)
-}
-
-// How many of three digits a step's number leaves out.
-fn left_out(step: usize) -> usize
-    ensures { λ r. ⌜ r ≤ 2 ⌝ }
-{
-    if step < 10 {
-        return 2;
-    }
-    if step < 100 {
-        return 1;
-    }
-    0
-}
-
-fn digit(x: usize) -> u8 {
-    48 + (x % 10) as u8
-}
-
-// The line of a step with its number in three digits.
-fn line_of(step: usize) -> [u8; 24] {
-    let mut line = *b"000 ffffffff00000000 32\n";
-    if step % 2 == 1 {
-        line = *b"000 00000000ffffffff 32\n";
-    }
-    line[0] = digit(step / 100);
-    line[1] = digit(step / 10);
-    line[2] = digit(step);
-    line
-}
-
-// Whether the text has the line of that step at that place.
-fn has_line(text: &Text, at: usize, step: usize) -> bool
-    requires { ⌜ at ≤ 31 + 24 * recordLimit ⌝ }
-{
-    let line = line_of(step);
-    let from = left_out(step);
-    is_at(text, at, &line[from..])
-}
-
-// Whether the text has the total at that place.
-fn has_total(text: &Text, at: usize) -> bool
-    requires { ⌜ at ≤ 31 + 24 * recordLimit ⌝ }
-{
-    is_at(text, at, b"total 8192\n")
-}
-
-// Whether the text has the lines of all steps, and the total after them.
-fn has_lines(text: &Text) -> bool {
-    let mut at = 31;
-    let mut step = 1;
-    while step <= Sheet::RECORD_LIMIT {
-        if !has_line(text, at, step) {
-            return false;
-        }
-        at += 24 - left_out(step);
-        step += 1;
-    }
-    has_total(text, at)
-}
-
-// Whether the full sheet has its listing: 31 bytes in the first line, 9 lines of 22, 90 of 23 and 157 of 24, and 11 bytes in the last.
+// Whether that sheet has it.
 fn has_wide_listing(bytes: &Space) -> bool {
     let whole: &[u8] = bytes;
     let mut text = [0u8; listing::LONGEST];
     let count = listing::list_plan(&whole[0..Sheet::LONGEST], &mut text);
-    let first = is_at(&text, 0, b"units 64 steps 256 bound 65535\n");
-    count == 6078 && first && has_lines(&text)
+    is_wide_listing(&text[..count])
 }
 
-// Tries the full sheet.
+// Tries a full sheet in which the two halves of the units are on in turns, so that each step has 32 switches, and the same with one byte more.
 fn try_halves() -> Tally {
     let mut bytes = [0u8; SPACE];
-    put_halves(&mut bytes);
-    Tally::of(has_wide_listing(&bytes))
+    put_most(&mut bytes, just(u64::MAX >> 32), just(u64::MAX << 32));
+    let wide = Tally::of(has_wide_listing(&bytes));
+    wide.plus(try_both(
+        &bytes,
+        Sheet::LONGEST + 1,
+        b"refused 1 0\n",
+        b"refused 1 0\n",
+    ))
+}
+
+// The limits of a step in which all units may be on.
+fn any_of(lower: u64, least: u8, greatest: u8) -> Limits {
+    Limits {
+        lower,
+        upper: u64::MAX,
+        least,
+        greatest,
+    }
+}
+
+// Whether a text is the listing of sizes of a full sheet in which 32 to 64 units may be on and 10 or 11, in turns: 9 lines of 8 bytes, 90 of 9 and 157 of 10.
+fn is_wide_sizes(text: &[u8]) -> bool {
+    text.len() == 2452 && has_lines(text, 0, b" 32 64\n", b" 10 11\n")
+}
+
+// Whether that sheet has it.
+fn has_wide_sizes(bytes: &Space) -> bool {
+    let whole: &[u8] = bytes;
+    let mut text = [0u8; listing::LONGEST_SIZES];
+    let count = listing::list_sizes(&whole[0..Sheet::LONGEST], &mut text);
+    is_wide_sizes(&text[..count])
+}
+
+// Tries that sheet.
+fn try_many_sizes() -> Tally {
+    let mut bytes = [0u8; SPACE];
+    put_most(
+        &mut bytes,
+        any_of(u64::MAX >> 32, 0, u8::MAX),
+        any_of(0, 10, 11),
+    );
+    Tally::of(has_wide_sizes(&bytes))
 }
 
 fn main() {
     let all = try_nothing()
         .plus(try_no_step())
         .plus(try_bound())
-        .plus(try_halves());
+        .plus(try_link_back())
+        .plus(try_halves())
+        .plus(try_many_sizes());
     all.write(b"listings");
 }

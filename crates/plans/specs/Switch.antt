@@ -4,12 +4,17 @@ use mathlib.Core.Path.{_≡_}
 use mathlib.Core.Bool.{true}
 use mathlib.Core.List.{List, [], _∷_}
 use Rattle.plans.specs.declared.Limits.{Limits}
-use Rattle.units.specs.Limits.{Feasible, hasFeasible}
+use Rattle.units.specs.Limits.{Feasible, feasibleSizes, hasFeasible}
+use Rattle.units.specs.declared.Sizes.{Sizes}
 use Rattle.units.specs.Sets.{difference, size}
 
 -- x is a feasible set of the step (fit, in docs/FORMAT.md)
 abbrev pub Allows : Limits → ℕ → Type 0
 Allows s x = Feasible (s .lower) (s .upper) (s .least) (s .greatest) x
+
+-- the least and the greatest size of a feasible set of the step, or that there is none
+abbrev pub sizesOf : Limits → Sizes
+sizesOf s = feasibleSizes (s .lower) (s .upper) (s .least) (s .greatest)
 
 -- a plan has one set for each step, and each is one that the step allows, whatever a step is and what it allows
 abbrev pub Throughout : {S : Type 0} → (S → ℕ → Type 0) → List S → List ℕ → Type 0

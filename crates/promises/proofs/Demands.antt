@@ -11,8 +11,10 @@ use Prim.Native.Nat.{ℕ, suc, _+_, _^_, _≤_, _<_, min}
 use native.Mathlib.Omega.{arith}
 use lib.ListN.{length, take, drop}
 use lib.Seq.{take-at}
-use Rattle.units.specs.Limits.{Feasible, hasFeasible}
-use Rattle.units.proofs.Limits.{some-feasible}
+use Rattle.units.specs.Limits.{Feasible, feasibleSizes, HasSize, hasFeasible}
+use Rattle.units.specs.Sets.{size}
+use Rattle.units.specs.declared.Sizes.the-variants.{Between}
+use Rattle.units.proofs.Limits.{some-feasible, sizes-exact, sizes-ordered}
 use Rattle.plans.specs.Switch.{total}
 use Rattle.format.specs.declared.Step.{Step}
 use Rattle.format.specs.Agreement.{Agree, untagged, readUntagged}
@@ -27,18 +29,18 @@ use Rattle.format.proofs.Chains.{chain-is-long-enough}
 use Rattle.format.proofs.Readings.{numbered-read}
 use Rattle.format.proofs.Writings.{sheet-length, records-written, chain-written, written-reads}
 use Rattle.promises.specs.Chart.{onWords, offWords, charted, warmChart}
-use Rattle.promises.specs.Common.{placesCauses, written, refusedReply, fullReply}
+use Rattle.promises.specs.Common.{limitsOn, placesCauses, written, refusedReply, fullReply}
 use Rattle.promises.specs.Plan.{supportOn, boundCauses, planRefusals, planned, warmPlan}
 use Rattle.promises.specs.declared.Reply.{Reply}
 use Rattle.promises.specs.declared.Written.{Written}
-use Rattle.promises.specs.Listing.{refusedLine, planLines, listingRefusals, listed, listing, printed, listPlan}
+use Rattle.promises.specs.Listing.{refusedLine, planLines, listingRefusals, listed, listing, printed, listPlan, sizesLines, sizesListed, sizesListing, listSizes}
 use Rattle.promises.specs.Statements.{Exact, Passes, Meets, HandedOut, FewestAndExact}
 use Rattle.promises.specs.Steps.{stepsRefusals, stepsReply, stepsWritten, warmSteps}
 use Rattle.promises.specs.Verdict.{wordsCauses, verdictRefusals, accepts, judged, warmVerdict}
 use Rattle.promises.specs.Write.{writeRefusals, refusedWritten, fullWritten, wrote, warmWrite}
 use Rattle.promises.proofs.Charts.{words-length, words-cells, no-others}
 use Rattle.promises.proofs.Exactly.{exact, no-first}
-use Rattle.promises.proofs.Likeness.{alike-reply, alike-list, alike-plan, alike-chart, alike-verdict, alike-listing}
+use Rattle.promises.proofs.Likeness.{alike-reply, alike-list, alike-plan, alike-chart, alike-verdict, alike-listing, alike-sizes}
 use Rattle.promises.proofs.Plans.{plan-fewest, plan-length-on, over-bound, in-bound, plan-open, plan-given}
 use Rattle.promises.proofs.Read.{passed}
 use Rattle.promises.proofs.Verdicts.{verdict-given, accepts-exactly, turned-down}
@@ -111,6 +113,15 @@ demand-1-listing s out =
     (numbered-append ListingNumber (readCauses s) (boundCauses s) (numbered-read ListingNumber (λ n l h. inl (l, h)) s) (inr refl, tt)) (supportOn s)
     (λ a. printed (listed s a) out)
 
+-- refusals 1 to 7: the sizes are listed of each sheet that passes the checks, whatever its bound
+abbrev pub SizesNumber : ℕ → Type 0
+SizesNumber n = (1 ≤ n) × (n ≤ 7)
+
+pub demand-1-sizes : (s out : List ℕ)
+    → Exact (readCauses s) SizesNumber (listSizes s out) (λ n p. printed (refusedLine n p) out) (printed (sizesLines 1 (limitsOn s)) out)
+unfolding sizesListing sizesListed
+demand-1-sizes s out = exact (readCauses s) SizesNumber (numbered-read SizesNumber (λ n l h. (l, h)) s) (limitsOn s) (λ a. printed (sizesListed a) out)
+
 -- refusals 11 and 12
 abbrev pub WriteNumber : ℕ → Type 0
 WriteNumber n = (11 ≤ n) × (n ≤ 12)
@@ -181,6 +192,16 @@ pub a-feasible-set : (x : Step) → hasFeasible (x .lower) (x .upper) (x .least)
     ↔ ((set : ℕ) × Feasible (x .lower) (x .upper) (x .least) (x .greatest) set)
 a-feasible-set x = some-feasible (x .lower) (x .upper) (x .least) (x .greatest)
 
+-- The sizes of a step, which are listed: a number is the size of some feasible set exactly if it is one from the least to the greatest, and where there is none
+-- (`NoSet`), no number is. The least is at the most the greatest, so that both are sizes of feasible sets.
+pub the-sizes : (x : Step) (k : ℕ)
+    → ((set : ℕ) × (Feasible (x .lower) (x .upper) (x .least) (x .greatest) set × (size set ≡ k)))
+    ↔ HasSize (feasibleSizes (x .lower) (x .upper) (x .least) (x .greatest)) k
+the-sizes x k = sizes-exact (x .lower) (x .upper) (x .least) (x .greatest) k
+
+pub the-sizes-in-order : (x : Step) (few many : ℕ) → feasibleSizes (x .lower) (x .upper) (x .least) (x .greatest) ≡ Between few many → few ≤ many
+the-sizes-in-order x few many = sizes-ordered (x .lower) (x .upper) (x .least) (x .greatest) few many
+
 -- the walk along the chain never runs out of links to look at: looking at more gives the same refusal or the same chain
 pub the-walk-ends : (s : List ℕ) (r more : ℕ)
     → unless (linkCauses r [] 0 (following (suc r + more) s 0)) (Given (following (suc r + more) s 0)) ≡ unless (linkCauses r [] 0 (chainOf s r)) (Given (chainOf s r))
@@ -246,3 +267,6 @@ agreeing-verdict s t plan g = alike-verdict s t (agreeing-sheets s t g) plan
 
 pub agreeing-listing : (s t out : List ℕ) → Agree s t → listPlan s out ≡ listPlan t out
 agreeing-listing s t out g = ap (λ text. printed text out) (alike-listing s t (agreeing-sheets s t g))
+
+pub agreeing-sizes : (s t out : List ℕ) → Agree s t → listSizes s out ≡ listSizes t out
+agreeing-sizes s t out g = ap (λ text. printed text out) (alike-sizes s t (agreeing-sheets s t g))

@@ -1,6 +1,6 @@
 -- The worked examples hold: each row is computed from the definitions.
 use mathlib.Core.Path.{refl}
-use Rattle.units.specs.Limits.{hasFeasible}
+use Rattle.units.specs.Limits.{feasibleSizes, hasFeasible}
 use Rattle.units.specs.Sets.{bit, union, intersection, difference, contains, insert, remove, isSubset, size, unitsBelow, hasUnitFrom}
 use Rattle.format.specs.Answer.{unless}
 use Rattle.format.specs.Chain.{following, chainOf, isIn, linkCauses}
@@ -20,7 +20,7 @@ use Rattle.promises.specs.Write.{writeRefusals, wrote, warmWrite}
 use Rattle.promises.specs.Examples.{All, benches, replies, choices, writings}
 
 pub examples-hold : All benches × (All replies × (All choices × All writings))
-unfolding hasFeasible bit union intersection difference contains insert remove isSubset size unitsBelow hasUnitFrom unless following chainOf isIn linkCauses stepOf nextOf byteAt u16At u32At u64At same stepsCauses readCauses campaignOf select below allows isFeasible prefixed plansOf leastOf fewest plansWithin joined joinedAll canBeOn canBeOff nextRequired nextForbidden requiredFirst ranksBefore firstIn taken supportSet supportFrom findSupport switches total stepsRefusals stepsReply stepsWritten warmSteps fewestOn supportOn planRefusals planned warmPlan onWords offWords charted warmChart verdictRefusals accepts judged warmVerdict writeRefusals wrote warmWrite bytesOf headerBytes recordBytes linkIn recordsAfter sheetOf ones onesIn benches replies choices writings
+unfolding feasibleSizes hasFeasible bit union intersection difference contains insert remove isSubset size unitsBelow hasUnitFrom unless following chainOf isIn linkCauses stepOf nextOf byteAt u16At u32At u64At same stepsCauses readCauses campaignOf select below allows isFeasible prefixed plansOf leastOf fewest plansWithin joined joinedAll canBeOn canBeOff nextRequired nextForbidden requiredFirst ranksBefore firstIn taken supportSet supportFrom findSupport switches total stepsRefusals stepsReply stepsWritten warmSteps fewestOn supportOn planRefusals planned warmPlan onWords offWords charted warmChart verdictRefusals accepts judged warmVerdict writeRefusals wrote warmWrite bytesOf headerBytes recordBytes linkIn recordsAfter sheetOf ones onesIn benches replies choices writings
 examples-hold = (
   (refl, (refl, (refl, (refl, (refl, (refl, (refl, (refl, (refl, (refl, (refl, tt))))))))))),
   ((refl, (refl, (refl, (refl, (refl, (refl, (refl, (refl, (refl, (refl, (refl, tt))))))))))), ((refl, (refl, (refl, (refl, (refl, (refl, (refl, (refl, (refl, (refl, (refl, (refl, tt)))))))))))), (refl, (refl, (refl, (refl, (refl, (refl, (refl, (refl, tt)))))))))),

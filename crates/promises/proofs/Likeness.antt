@@ -18,7 +18,7 @@ use Rattle.plans.specs.Switch.{total}
 use Rattle.promises.specs.Common.{limitsOn, placesCauses, fullReply}
 use Rattle.promises.specs.Plan.{fewestOn, supportOn, boundCauses, planned, warmPlan}
 use Rattle.promises.specs.Chart.{onWords, offWords, charted, warmChart}
-use Rattle.promises.specs.Listing.{planLines, listed, listing}
+use Rattle.promises.specs.Listing.{planLines, listed, listing, sizesLines, sizesListed, sizesListing}
 use Rattle.promises.specs.Verdict.{accepts, judged, warmVerdict}
 use Rattle.promises.specs.Steps.{stepsAnswer, stepsReply, stepsWritten}
 use Rattle.promises.proofs.Listings.{listing-staged}
@@ -120,6 +120,10 @@ module _ (s t : List ℕ) (same : readUntagged s ≡ readUntagged t) where
       (λ i. unless (cause (ltb (same-bound s t a i) (same-fewest s t a i)) 9 (same-fewest s t a i) ∷ []) (Given (same-many s t a i))) (λ n p. refl)
       (λ q i. planLines (same-units s t a i) (same-many s t a i) (same-bound s t a i) (same-start s t a i) (same-support s t a i) (total (same-start s t a i) (same-support s t a i))))
       ∙ sym (listing-staged t)
+
+  pub alike-sizes : sizesListing s ≡ sizesListing t
+  unfolding sizesListed sizesListing
+  alike-sizes = alike sizesListed sizesListed (Given (limitsOn s)) (Given (limitsOn t)) (λ n p. refl) (λ a i. sizesLines 1 (same-limits s t a i))
 
   -- of the answer of `warm_steps`, what tags play no part in
   alike-steps : {R : Type 0} (f : Answer Campaign → R) → (withoutTags (campaignOf s) ≡ withoutTags (campaignOf t) → f (Given (campaignOf s)) ≡ f (Given (campaignOf t)))

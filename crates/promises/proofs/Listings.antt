@@ -1,18 +1,20 @@
--- Laws on the listing of a sheet: what it is by what the reader says and by the plan's total.
+-- Laws on the listings of a sheet: what they are by what the reader says and by the plan's total.
 use mathlib.Core.Path.{_≡_, sym, ap, _∙_}
-use mathlib.Core.List.{List}
+use mathlib.Core.List.{List, map}
 use Prim.Native.Nat.{ℕ, _≤_, _<_}
 use Rattle.plans.specs.Switch.{total}
 use Rattle.format.specs.declared.Summary.{Summary}
 use Rattle.format.specs.Answer.{Answer, Refused, Given, unless}
-use Rattle.format.specs.Format.{boundOf, startOf}
+use Rattle.format.specs.Chain.{stepsFrom}
+use Rattle.format.specs.Format.{limitsOf, boundOf, startOf}
 use Rattle.format.specs.Reading.{readCauses}
 use Rattle.format.specs.Stages.{summaryOf, summaryRead}
 use Rattle.format.proofs.Answers.{unless-append, refused-whatever}
+use Rattle.promises.specs.Common.{limitsOn}
 use Rattle.promises.specs.Plan.{supportOn, boundCauses}
 use Rattle.promises.proofs.Plans.{over-bound, in-bound}
-use Rattle.promises.proofs.Read.{many-steps, start-is, bound-is, units-are, was-read}
-use Rattle.promises.specs.Listing.{refusedLine, planLines, listingRefusals, listed, listing}
+use Rattle.promises.proofs.Read.{was-opened, many-steps, start-is, bound-is, units-are, was-read}
+use Rattle.promises.specs.Listing.{refusedLine, planLines, listingRefusals, listed, listing, sizesLines, sizesListed, sizesListing}
 
 pub listing-staged : (s : List ℕ) → listing s ≡ listed s (unless (readCauses s) (unless (boundCauses s) (Given (supportOn s))))
 unfolding listing listingRefusals
@@ -40,3 +42,15 @@ module _ (s : List ℕ) {x : Summary} (e : summaryRead s ≡ Given x) where
       → planLines (x .header .units) (x .steps) (x .header .bound) (x .header .start) (supportOn s) many ≡ listing s
   unfolding listed
   listing-planned h = rw (units-are s e, sym (many-steps s e), bound-is s e, start-is s e) (told (Given (supportOn s)) (in-bound s e h (Given (supportOn s))))
+
+-- ---- the sizes of the steps
+
+-- a sheet that the reader refuses
+pub sizes-unread : (s : List ℕ) {n p : ℕ} → summaryRead s ≡ Refused n p → refusedLine n p ≡ sizesListing s
+unfolding sizesListed sizesListing
+sizes-unread s e = ap sizesListed (refused-whatever (readCauses s) (summaryOf s) (sym e) (Given (limitsOn s)))
+
+-- and one that was read: the sizes of the steps along its chain
+pub sizes-read : (s : List ℕ) {x : Summary} → summaryRead s ≡ Given x → sizesLines 1 (map limitsOf (stepsFrom s 0 (x .steps))) ≡ sizesListing s
+unfolding sizesListed sizesListing
+sizes-read s e = ap (λ xs. sizesLines 1 (map limitsOf xs)) (was-opened s e .steps) ∙ ap sizesListed (was-read s e (Given (limitsOn s)))

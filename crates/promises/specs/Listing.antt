@@ -1,13 +1,16 @@
--- `list_plan`: refusals 1 to 7 and 9, or the plan that FindSupport gives, as text.
+-- `list_plan`: refusals 1 to 7 and 9, or the plan that FindSupport gives, as text. `list_sizes`: refusals 1 to 7, or how many units may be on in each step.
 use Prim.Native.Nat.{ℕ, _+_}
 use mathlib.Core.List.{List, [], _∷_, _++_}
 use lib.ListN.{length}
 use Rattle.format.specs.Answer.{Answer, Refused, Given, Cause, unless}
 use Rattle.format.specs.Format.{unitsOf, boundOf, startOf}
 use Rattle.format.specs.Reading.{stepsOf, readCauses}
-use Rattle.plans.specs.Switch.{switches, total}
+use Rattle.units.specs.declared.Sizes.{Sizes}
+use Rattle.units.specs.declared.Sizes.the-variants.{Between, NoSet}
+use Rattle.plans.specs.declared.Limits.{Limits}
+use Rattle.plans.specs.Switch.{sizesOf, switches, total}
 use Rattle.promises.specs.Plan.{supportOn, boundCauses}
-use Rattle.promises.specs.Common.{written}
+use Rattle.promises.specs.Common.{limitsOn, written}
 use Rattle.promises.specs.Digits.{decimal, hexadecimal}
 
 -- ---- words
@@ -90,3 +93,27 @@ printed text out = (length text, written text out)
 
 abbrev pub listPlan : List ℕ → List ℕ → ℕ × List ℕ
 listPlan s out = printed (listing s) out
+
+-- ---- the sizes of the steps
+
+-- "1 2 5": the step, and the least and the greatest size of a feasible set there; no line where there is none
+unfoldable pub sizesLine : ℕ → Sizes → List ℕ
+sizesLine i (Between few many) = decimal i ++ field blank few ++ field blank many ++ lineEnd
+sizesLine i NoSet = []
+
+-- the lines of the steps from number i on
+unfoldable pub sizesLines : ℕ → List Limits → List ℕ
+sizesLines i [] = []
+sizesLines i (s ∷ ss) = sizesLine i (sizesOf s) ++ sizesLines (i + 1) ss
+
+-- the text of a refusal, or of the sizes of some steps
+unfoldable pub sizesListed : Answer (List Limits) → List ℕ
+sizesListed (Refused n p) = refusedLine n p
+sizesListed (Given ss) = sizesLines 1 ss
+
+-- the sizes of any bytes: one refusal of 1 to 7, or those of all steps
+unfoldable pub sizesListing : List ℕ → List ℕ
+sizesListing s = sizesListed (unless (readCauses s) (Given (limitsOn s)))
+
+abbrev pub listSizes : List ℕ → List ℕ → ℕ × List ℕ
+listSizes s out = printed (sizesListing s) out

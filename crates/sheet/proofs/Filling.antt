@@ -6,13 +6,13 @@ use Prim.Native.Nat.{ℕ, suc, _+_, _*_, _-_, _<_}
 use native.Mathlib.Omega.{arith}
 use lib.ListN.{length}
 use lib.Seq.{sets, length-sets}
-use Rattle.plans.specs.Rows.{rowsOf}
+use Rattle.plans.specs.Rows.{rowsOf, sized}
 use Rattle.format.specs.Chain.{stepsFrom}
 use Rattle.format.specs.Format.{limitsOf, nextOf, stepOf}
 
 -- the words of the n steps after record j
 abbrev pub words : List ℕ → ℕ → ℕ → List ℕ
-words s j n = rowsOf (map limitsOf (stepsFrom s j n))
+words s j n = rowsOf (map sized (map limitsOf (stepsFrom s j n)))
 
 pub record Filling (s : List ℕ) (n : ℕ) (before now : List ℕ) (at i : ℕ) : Type 0 where
   pub same-long : length now ≡ length before
@@ -24,14 +24,14 @@ fill-begun s n before =
     record { same-long = refl; ends = ap (λ (k : ℕ). sets before 0 (words s 0 k)) none }
 
 module _ {s : List ℕ} {n : ℕ} {before now : List ℕ} {at i : ℕ} (g : Filling s n before now at i) where
-  pub fill-on : i < n → (after : List ℕ) → after ≡ sets now (4 * i) (rowsOf (limitsOf (stepOf s (nextOf s at)) ∷ []))
+  pub fill-on : i < n → (after : List ℕ) → after ≡ sets now (4 * i) (rowsOf (sized (limitsOf (stepOf s (nextOf s at))) ∷ []))
       → Filling s n before after (nextOf s at) (i + 1)
   unfolding stepsFrom rowsOf
   fill-on h after is =
       let left : n - i ≡ suc (n - (i + 1)) = omega arith in
       let next : 4 * (i + 1) ≡ suc (suc (suc (suc (4 * i)))) = omega arith in
       record {
-        same-long = ap length is ∙ length-sets now (4 * i) (rowsOf (limitsOf (stepOf s (nextOf s at)) ∷ [])) ∙ g .same-long;
+        same-long = ap length is ∙ length-sets now (4 * i) (rowsOf (sized (limitsOf (stepOf s (nextOf s at))) ∷ [])) ∙ g .same-long;
         ends =
             ap₂ (λ l (k : ℕ). sets l k (words s (nextOf s at) (n - (i + 1)))) is next
             ∙ ap (λ (k : ℕ). sets now (4 * i) (words s at k)) (sym left)

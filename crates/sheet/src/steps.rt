@@ -5,6 +5,7 @@ use super::record::step_at;
 use format::Refusal;
 use format::Step;
 use format::Summary;
+use units::Sizes;
 ghost use mathlib.Core.Path.{_≡_};
 ghost use Prim.Native.Nat.{_≤_};
 ghost use Rattle.format.specs.Answer.{Given, unless};
@@ -21,10 +22,10 @@ fn fault(x: Step, d: u32) -> u32
     if units::has_unit_from(x.upper, d) {
         return 6;
     }
-    if !units::has_feasible(x.lower, x.upper, x.least, x.greatest) {
-        return 7;
+    match units::feasible_sizes(x.lower, x.upper, x.least, x.greatest) {
+        Sizes::Between(_, _) => 0,
+        Sizes::NoSet => 7,
     }
-    0
 }
 
 // What a sheet with that header and so many steps says, or the refusal of its first faulty step.

@@ -7,14 +7,13 @@ use mathlib.Core.Bool.{Bool, true, false, cond}
 use mathlib.Core.List.{List}
 use Prim.Native.Nat.{ℕ, _+_, _-_, _^_, _≤_, _<_}
 use native.Mathlib.Omega.{arith}
-use borrow.Author.Tests.{ltb-true, ltb-false, le-leb}
+use borrow.Author.Tests.{ltb-true, ltb-false}
 use lib.Dec.{ltb}
 use lib.ListN.{length}
 use lib.Pow.{pow-pos}
-use Rattle.units.specs.Limits.{hasFeasible}
 use Rattle.units.specs.Sets.{bit, difference, Subset, insert, remove, size}
-use Rattle.units.proofs.Limits.{some-feasible}
-use Rattle.units.proofs.Sets.{bit-above, bit-difference, bit-full, bit-insert, bit-insert-other, bit-le, bit-remove, bit-remove-other, insert-subset, size-except, size-insert, size-mono, subset-or-missing, subset-remove, subset-test}
+use Rattle.units.proofs.Limits.{fits, some-feasible}
+use Rattle.units.proofs.Sets.{bit-above, bit-difference, bit-full, bit-insert, bit-insert-other, bit-le, bit-remove, bit-remove-other, insert-subset, size-except, size-insert, size-mono, subset-or-missing, subset-remove}
 use Rattle.plans.specs.Rows.{limits, stepAt}
 use Rattle.plans.specs.Support.{findSupport}
 use Rattle.plans.specs.declared.Limits.{Limits}
@@ -26,13 +25,6 @@ use Rattle.tables.proofs.Forced.{someSet, some-forced}
 use Rattle.tables.proofs.Slack.{slack}
 
 -- ---- one step
-
--- limits that pass four tests allow some set
-fits : (lower upper least greatest : ℕ) → Subset lower upper → least ≤ greatest → size lower ≤ greatest → least ≤ size upper
-    → hasFeasible lower upper least greatest ≡ true
-unfolding hasFeasible
-fits lower upper least greatest h p q r =
-    simp (subset-test lower upper h, le-leb least greatest p, le-leb (size lower) greatest q, le-leb least (size upper) r)
 
 -- a set within another that has no more units has them all
 whole : (a b : ℕ) → Subset a b → size b ≤ size a → Subset b a

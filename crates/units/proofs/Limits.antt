@@ -1,14 +1,16 @@
--- The test of a step's limits holds exactly if some set is feasible there. One way, a feasible set has room for the lower set and fits in the
--- upper one. The other way, units of the upper set join the lower set one by one until it has a size that the limits allow.
-use mathlib.Core.Path.{_≡_}
+-- The test of a step gives the sizes of its feasible sets, and no other (`sizes-exact`). One way, a feasible set has room for the lower set and fits in the
+-- upper one. The other way, units of the upper set join the lower set one by one until it has the size that is asked for.
+use mathlib.Core.Path.{_≡_, refl, sym, _∙_}
 use mathlib.Core.Logic.{_↔_}
-use mathlib.Core.Bool.{true, _&&_, and-eq-true-iff}
-use Prim.Native.Nat.{ℕ, zero, suc, _+_, _-_, _≤_, max}
+use mathlib.Core.Bool.{Bool, true, false, cond, _&&_, and-eq-true-iff, false≢true}
+use Prim.Native.Nat.{ℕ, zero, suc, _+_, _-_, _≤_, min, max}
 use native.Mathlib.Omega.{arith}
 use lib.Dec.{leb}
 use borrow.Author.Tests.{leb-true, le-leb}
 use Rattle.units.specs.Sets.{Subset, isSubset, insert, size}
-use Rattle.units.specs.Limits.{Feasible, hasFeasible}
+use Rattle.units.specs.Limits.{Feasible, feasibleSizes, HasSize, hasSet, hasFeasible}
+use Rattle.units.specs.declared.Sizes.{Sizes}
+use Rattle.units.specs.declared.Sizes.the-variants.{Between, NoSet}
 use Rattle.units.proofs.Sets.{insert-subset, size-insert, size-mono, subset-holds, subset-insert, subset-test, unit-outside}
 
 -- a set between two others, with j units more than the lower one
@@ -22,27 +24,65 @@ between (suc j) lower upper h room =
     let rest = between j (insert lower v) upper (insert-subset lower upper v h (out .1 .0)) (omega arith) in
     (rest .0, ((λ u. omega (arith, subset-insert lower v u, rest .1 .0 u)), (rest .1 .1 .0, omega (arith, rest .1 .1 .1))))
 
-pub some-feasible : (lower upper least greatest : ℕ) → hasFeasible lower upper least greatest ≡ true ↔ ((x : ℕ) × Feasible lower upper least greatest x)
-unfolding hasFeasible
-some-feasible lower upper least greatest = (found, tested)
-  where
-    made : isSubset lower upper ≡ true → least ≤ greatest → size lower ≤ greatest → least ≤ size upper → (x : ℕ) × Feasible lower upper least greatest x
-    made s p q r =
-        let sub = subset-holds lower upper s in
-        let b = between (max least (size lower) - size lower) lower upper sub (omega (arith, size-mono lower upper sub)) in
-        (b .0, record { includes = b .1 .0; within = b .1 .1 .0; enough = omega (arith, b .1 .1 .1); few = omega (arith, b .1 .1 .1) })
+module _ (lower upper least greatest : ℕ) where
+  abbrev few : ℕ
+  few = max least (size lower)
 
-    found : hasFeasible lower upper least greatest ≡ true → (x : ℕ) × Feasible lower upper least greatest x
-    found t =
-        let p = and-eq-true-iff (isSubset lower upper && leb least greatest && leb (size lower) greatest) (leb least (size upper)) .0 t in
-        let q = and-eq-true-iff (isSubset lower upper && leb least greatest) (leb (size lower) greatest) .0 (p .0) in
-        let s = and-eq-true-iff (isSubset lower upper) (leb least greatest) .0 (q .0) in
-        made (s .0) (leb-true _ _ (s .1)) (leb-true _ _ (q .1)) (leb-true _ _ (p .1))
+  abbrev many : ℕ
+  many = min greatest (size upper)
 
-    tested : ((x : ℕ) × Feasible lower upper least greatest x) → hasFeasible lower upper least greatest ≡ true
-    tested w =
-        let x = w .0 in
-        let f = w .1 in
-        let low : size lower ≤ size x = size-mono lower x (f .includes) in
-        let high : size x ≤ size upper = size-mono x upper (f .within) in
-        simp (subset-test lower upper (λ u. omega (arith, f .includes u, f .within u)), le-leb least greatest (omega (arith, f .enough, f .few)), le-leb (size lower) greatest (omega (arith, f .few)), le-leb least (size upper) (omega (arith, f .enough)))
+  -- some feasible set has size k
+  abbrev SomeOfSize : ℕ → Type 0
+  SomeOfSize k = (x : ℕ) × (Feasible lower upper least greatest x × (size x ≡ k))
+
+  -- the size of a feasible set lies between the two
+  between-ends : (x : ℕ) → Feasible lower upper least greatest x → (few ≤ size x) × (size x ≤ many)
+  between-ends x f = (omega (arith, f .enough, size-mono lower x (f .includes)), omega (arith, f .few, size-mono x upper (f .within)))
+
+  -- and each size between the two is that of a feasible set
+  of-size : Subset lower upper → (k : ℕ) → few ≤ k → k ≤ many → SomeOfSize k
+  of-size h k l m =
+      let (x, (includes, (within, is))) = between (k - size lower) lower upper h (omega arith) in
+      (x, (record { includes = includes; within = within; enough = omega (arith, is); few = omega (arith, is) }, omega (arith, is)))
+
+  -- What holds of the two ends, where the lower set is within the upper one and the ends are in order, and of `NoSet`, where no set is feasible, holds of what
+  -- the test gives.
+  pub either-way : (P : Sizes → Type 0) → (Subset lower upper → few ≤ many → P (Between few many))
+      → (((x : ℕ) → Feasible lower upper least greatest x → ⊥) → P NoSet) → P (feasibleSizes lower upper least greatest)
+  unfolding feasibleSizes
+  either-way P some none = go (isSubset lower upper && leb few many) refl
+    where
+      passes : (x : ℕ) → Feasible lower upper least greatest x → (isSubset lower upper && leb few many) ≡ true
+      passes x f =
+          let (low, high) = between-ends x f in
+          simp (subset-test lower upper (λ u. omega (arith, f .includes u, f .within u)), le-leb few many (omega arith))
+
+      go : (t : Bool) → (isSubset lower upper && leb few many) ≡ t → P (cond t (Between few many) NoSet)
+      go true e = let p = and-eq-true-iff (isSubset lower upper) (leb few many) .0 e in some (subset-holds lower upper (p .0)) (leb-true few many (p .1))
+      go false e = none (λ x f. false≢true (sym e ∙ passes x f))
+
+  -- a number is the size of some feasible set exactly if it is one of the sizes
+  pub sizes-exact : (k : ℕ) → SomeOfSize k ↔ HasSize (feasibleSizes lower upper least greatest) k
+  sizes-exact k =
+      either-way (λ z. SomeOfSize k ↔ HasSize z k)
+      (λ h l. (λ (x, (f, is)). let (low, high) = between-ends x f in (omega arith, omega arith), λ (low, high). of-size h k low high))
+      (λ none. (λ (x, (f, is)). none x f, λ z. absurd z))
+
+  -- the least is at the most the greatest, so that both are sizes of feasible sets
+  pub sizes-ordered : (a b : ℕ) → feasibleSizes lower upper least greatest ≡ Between a b → a ≤ b
+  sizes-ordered a b =
+      either-way (λ z. z ≡ Between a b → a ≤ b)
+      (λ h l e. let low : few ≡ a = cc in let high : many ≡ b = cc in omega arith)
+      (λ none e. let never : _≡_ {A = ℕ} 0 1 = cc in absurd (omega arith))
+
+  -- there is a feasible set exactly if there are sizes
+  pub some-feasible : hasFeasible lower upper least greatest ≡ true ↔ ((x : ℕ) × Feasible lower upper least greatest x)
+  unfolding hasFeasible
+  some-feasible =
+      either-way (λ z. hasSet z ≡ true ↔ ((x : ℕ) × Feasible lower upper least greatest x))
+      (λ h l. (λ t. let (x, (f, is)) = of-size h few (omega arith) l in (x, f), λ w. refl))
+      (λ none. (λ t. absurd (false≢true t), λ (x, f). absurd (none x f)))
+
+  -- limits that pass four tests allow some set
+  pub fits : Subset lower upper → least ≤ greatest → size lower ≤ greatest → least ≤ size upper → hasFeasible lower upper least greatest ≡ true
+  fits h p q r = let (x, (f, is)) = of-size h few (omega arith) (omega (arith, size-mono lower upper h)) in some-feasible .1 (x, f)

@@ -1,8 +1,10 @@
 -- What a step allows: a set that includes the lower set, lies within the upper set and has a size from the least to the greatest number.
--- (Such a set is fit, in docs/FORMAT.md.) A law in proofs/ says that the test holds exactly if there is such a set.
-use Prim.Native.Nat.{ℕ, _≤_}
-use mathlib.Core.Bool.{Bool, _&&_}
+-- (Such a set is fit, in docs/FORMAT.md.) The test of a step gives the sizes of such sets; laws in proofs/ say that it gives these sizes and no other.
+use Prim.Native.Nat.{ℕ, _≤_, min, max}
+use mathlib.Core.Bool.{Bool, true, false, cond, _&&_}
 use lib.Dec.{leb}
+use Rattle.units.specs.declared.Sizes.{Sizes}
+use Rattle.units.specs.declared.Sizes.the-variants.{Between, NoSet}
 use Rattle.units.specs.Sets.{Subset, isSubset, size}
 
 -- x is a set that the limits allow
@@ -12,6 +14,23 @@ pub record Feasible (lower upper least greatest x : ℕ) : Type 0 where
   pub enough : least ≤ size x
   pub few : size x ≤ greatest
 
+-- the least and the greatest size of a set that the limits allow, or that they allow none
+unfoldable pub feasibleSizes : ℕ → ℕ → ℕ → ℕ → Sizes
+feasibleSizes lower upper least greatest =
+    let few = max least (size lower) in
+    let many = min greatest (size upper) in
+    cond (isSubset lower upper && leb few many) (Between few many) NoSet
+
+-- k is one of the sizes
+abbrev pub HasSize : Sizes → ℕ → Type 0
+HasSize (Between few many) k = (few ≤ k) × (k ≤ many)
+HasSize NoSet k = ⊥
+
+-- whether there are any
+abbrev pub hasSet : Sizes → Bool
+hasSet (Between few many) = true
+hasSet NoSet = false
+
 -- the test that the limits allow some set
 unfoldable pub hasFeasible : ℕ → ℕ → ℕ → ℕ → Bool
-hasFeasible lower upper least greatest = isSubset lower upper && leb least greatest && leb (size lower) greatest && leb least (size upper)
+hasFeasible lower upper least greatest = hasSet (feasibleSizes lower upper least greatest)

@@ -1,12 +1,12 @@
 // Sets of units: a set is a u64 in which unit u has weight 2^u.
 //
-// Each function is one or two machine operations and ensures that its result is the set, size or test that specs/Sets.antt defines.
-// Those that take a unit require that it is below 64. They serve the crates above; none is an open entry of the library.
+// Each function is a few machine operations and ensures that its result is the set, size or test that specs/Sets.antt defines, or, for the test of a step,
+// specs/Limits.antt. Those that take a unit require that it is below 64. They serve the crates above; none is an open entry of the library.
 ghost use mathlib.Core.Path.{_≡_};
 ghost use mathlib.Core.Bool.{cond};
-ghost use Prim.Native.Nat.{ℕ, _-_, _^_, _<_, _≤_};
+ghost use Prim.Native.Nat.{ℕ, _-_, _^_, _<_, _≤_, min, max};
 ghost use Rattle.units.specs.Sets.{union, intersection, difference, isSubset, meets, contains, insert, remove, size, hasUnitFrom, Lowest, Highest};
-ghost use Rattle.units.specs.Limits.{hasFeasible};
+ghost use Rattle.units.specs.Limits.{feasibleSizes};
 
 // All units that a set can have.
 pub const ALL: u64 = u64::MAX;
@@ -106,22 +106,38 @@ pub fn units_below(d: u32) -> u64
     ALL
 }
 
-// Whether some set includes lower, lies within upper and has a size from least to greatest.
-pub fn has_feasible(lower: u64, upper: u64, least: u8, greatest: u8) -> bool
-    ensures { λ r. ⌜ r ≡ hasFeasible lower upper least greatest ⌝ }
+// What the test of a step answers: the least and the greatest size of a feasible set, or that there is none.
+pub enum Sizes {
+    Between(u32, u32),
+    NoSet,
+}
+
+// The greater of two numbers, and the lesser.
+fn greater(a: u32, b: u32) -> u32
+    ensures { λ r. ⌜ r ≡ max a b ⌝ }
+{
+    if a < b { b } else { a }
+}
+
+fn lesser(a: u32, b: u32) -> u32
+    ensures { λ r. ⌜ r ≡ min a b ⌝ }
+{
+    if a < b { a } else { b }
+}
+
+// The sizes of the sets that include lower, lie within upper and have a size from least to greatest.
+pub fn feasible_sizes(lower: u64, upper: u64, least: u8, greatest: u8) -> Sizes
+    ensures { λ r. ⌜ r ≡ feasibleSizes lower upper least greatest ⌝ }
 {
     if !is_subset(lower, upper) {
-        return false;
+        return Sizes::NoSet;
     }
-    if greatest < least {
-        return false;
+    let few = greater(least as u32, size(lower));
+    let many = lesser(greatest as u32, size(upper));
+    if many < few {
+        return Sizes::NoSet;
     }
-    let greatest = greatest as u32;
-    let least = least as u32;
-    if greatest < size(lower) {
-        return false;
-    }
-    least <= size(upper)
+    Sizes::Between(few, many)
 }
 
 // The lowest unit of s, which has one.

@@ -2,6 +2,8 @@
 use native.Mathlib.Omega.{arith}
 use borrow.Author.Needs.{needs}
 use denote.Ref.{now}
+use Rattle.plans.proofs.Sized.{sized-feasible}
+use Rattle.promises.specs.Common.{limitsOn}
 use Rattle.promises.proofs.Read.{was-opened, start-is}
 use Rattle.campaign.proofs.Decoded.{lent-rows, many-limits, rows-are, rows-sound}
 use Rattle.campaign.proofs.check_read.Statement.{statement}
@@ -40,7 +42,7 @@ returns c =
     let k = c .before .before .before .before .before .before .before .before .before .before .before .before in
     let s = now (k .args .sheet) in
     let e = k .pre .0 in
-    rw (lent-rows s e (now (k .args .rows)) (c .before .before .before .before .before .before .decode .ensures) (k .pre .1 .0), rows-are s e, start-is s e) at (c .check-plan .ensures)
+    rw (lent-rows s e (now (k .args .rows)) (c .before .before .before .before .before .before .decode .ensures) (k .pre .1 .0), rows-are s e, start-is s e, sized-feasible (limitsOn s) (now (k .args .plan))) at (c .check-plan .ensures)
 
 pub check-read-spec : {M : Type 1} → statement M
 check-read-spec =

@@ -4,6 +4,9 @@ use native.Mathlib.Omega.{arith}
 use borrow.Author.Needs.{needs}
 use denote.Ref.{now}
 use lib.Seq.{sets}
+use Rattle.plans.proofs.Sized.{sized-satisfiable, sized-support}
+use Rattle.format.specs.Format.{startOf}
+use Rattle.promises.specs.Common.{limitsOn}
 use Rattle.promises.specs.Plan.{supportOn}
 use Rattle.promises.proofs.Read.{was-opened, start-is, satisfiable}
 use Rattle.campaign.proofs.Decoded.{lent-rows, many-limits, rows-decoded, rows-are, rows-sound}
@@ -33,7 +36,7 @@ plan-requires c κs =
     let k = c .before .before .before .before .before .before .before .before .before .before .before .before in
     let s = now (k .args .sheet) in
     let e = k .pre .0 in
-    rw (lent-rows s e (now (k .args .rows)) (c .before .before .before .before .before .before .decode .ensures) (k .pre .1 .0), rows-are s e) (rows-sound s e, (satisfiable s e, omega (arith, many-limits s e, k .pre .1 .1)))
+    rw (lent-rows s e (now (k .args .rows)) (c .before .before .before .before .before .before .decode .ensures) (k .pre .1 .0), rows-are s e) (rows-sound s e, (sized-satisfiable (limitsOn s) (satisfiable s e), omega (arith, many-limits s e, k .pre .1 .1)))
 
 same-length : tie.Need-same-length
 same-length c = search needs
@@ -47,7 +50,7 @@ returns c =
     let k = c .before .before .before .before .before .before .before .before .before .before .before .before .before .before .before in
     let s = now (k .args .sheet) in
     let e = k .pre .0 in
-    let made = rw (lent-rows s e (now (k .args .rows)) (c .before .before .before .before .before .before .before .before .before .decode .ensures) (k .pre .1 .0), rows-are s e, start-is s e) at (c .before .before .plan .ensures) in
+    let made = rw (lent-rows s e (now (k .args .rows)) (c .before .before .before .before .before .before .before .before .before .decode .ensures) (k .pre .1 .0), rows-are s e, start-is s e, sized-support (startOf s) (limitsOn s)) at (c .before .before .plan .ensures) in
     (c .before .before .before .before .before .before .before .before .before .decode .ensures ∙ ap (sets (now (k .args .rows)) 0) (rows-decoded s e), made)
 
 pub plan-read-spec : {M : Type 1} → statement M

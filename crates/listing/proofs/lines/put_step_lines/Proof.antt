@@ -1,13 +1,16 @@
 -- `listing::lines::put_step_lines` meets its contract: `Stepping` has the laws of its loop.
 use mathlib.Core.Path.{_≡_, sym, ap, _∙_}
-use Prim.Native.Nat.{_-_, _≤_, _<_}
+use Prim.Native.Nat.{_+_, _-_, _≤_, _<_}
 use native.Mathlib.Omega.{arith}
 use lib.ListN.{length}
 use Rattle.units.specs.Sets.{difference, size}
 use Rattle.plans.specs.Switch.{switches}
 use Rattle.units.proofs.Sets.{size-below}
+use Rattle.promises.specs.Listing.{stepLine}
+use Rattle.writer.specs.Placed.{Placed}
 use Rattle.writer.proofs.Places.{placed-length}
-use Rattle.listing.proofs.Stepping.{Stepping, started, onward, ended}
+use Rattle.listing.proofs.Putting.{none-put, line-put, all-put}
+use Rattle.listing.proofs.Stepping.{Stepping, line-width, next-line, no-line}
 use borrow.Author.Needs.{needs}
 use Rattle.listing.proofs.lines.put_step_lines.Statement.{statement}
 use Rattle.listing.proofs.lines.put_step_lines.Tie as tie
@@ -23,7 +26,7 @@ few : (c : tie.After-size Inv-loop μ-loop) → c .size .result < 100
 few c = omega (arith, c .size .ensures, size-below 64 (c .before .difference .result) (omega (arith, c .before .difference .ok)))
 
 loop-holds : tie.Need-loop-holds Inv-loop μ-loop
-loop-holds c = (omega arith, started _ _ _ _ (omega (arith, c .before .before .pre .1)))
+loop-holds c = (omega arith, none-put _ _ _ (omega (arith, c .before .before .pre .1)))
 
 mul-set : tie.Need-mul-set Inv-loop μ-loop
 mul-set c = search needs
@@ -64,7 +67,8 @@ loop-again c =
     let p = c .before .before .before .before .before .before .before .before .before .before .before .pre in
     let many : c .before .before .before .before .size .result ≡ size (difference _ (l .before)) =
     c .before .before .before .before .size .ensures ∙ ap size (c .before .before .before .before .before .difference .ensures) in
-    (omega arith, onward (l .inv .1) h (omega arith) (omega (arith, few (c .before .before .before .before), many)) (rw (sym many) (c .before .before .put-step-line .ensures)))
+    let put : Placed (stepLine (l .i + 1) _ (size (difference _ (l .before)))) _ _ _ _ = rw many at (c .before .before .put-step-line .ensures) in
+    (omega arith, line-put (l .inv .1) (next-line _ (l .i) (l .before) h) (line-width (l .i + 1) _ _ (omega arith) (rw many at (few (c .before .before .before .before)))) (omega arith) put)
 
 same-length : tie.Need-same-length Inv-loop μ-loop
 same-length c = placed-length (c .before .loop .inv .1 .placed)
@@ -72,7 +76,7 @@ same-length c = placed-length (c .before .loop .inv .1 .placed)
 returns : tie.Need-returns Inv-loop μ-loop
 returns c =
     let l = c .before .loop in
-    (ended (l .inv .1) (c .loop-test .left), omega (arith, l .inv .0, l .inv .1 .room, l .inv .1 .placed .ended))
+    (all-put (l .inv .1) (no-line _ (l .i) (l .before) (c .loop-test .left)), omega (arith, l .inv .0, l .inv .1 .room, l .inv .1 .placed .ended))
 
 pub put-step-lines-spec : {M : Type 1} → statement M
 put-step-lines-spec =

@@ -2,6 +2,8 @@
 use mathlib.Core.Path.{sym, ap, _∙_}
 use mathlib.Core.Bool.{not}
 use borrow.Author.Needs.{needs}
+use Rattle.units.specs.Limits.{hasSet, hasFeasible}
+use Rattle.units.specs.declared.Sizes.{Sizes}
 use Rattle.sheet.specs.Told.{faultOf}
 use Rattle.sheet.proofs.steps.fault.Statement.{statement}
 use Rattle.sheet.proofs.steps.fault.Tie as tie
@@ -13,18 +15,33 @@ returns : tie.Need-returns
 unfolding faultOf
 returns c = simp (sym (c .before .has-unit-from .ensures) ∙ c .if1 .taken)
 
-has-feasible-requires : tie.Need-has-feasible-requires
-has-feasible-requires c κs = search needs
+feasible-sizes-requires : tie.Need-feasible-sizes-requires
+feasible-sizes-requires c κs = search needs
+
+enum-told : tie.Need-enum-told
+enum-told c = search needs
+
+enum-told-2 : tie.Need-enum-told-2
+enum-told-2 c = search needs
 
 returns-2 : tie.Need-returns-2
-unfolding faultOf
+unfolding faultOf hasFeasible
 returns-2 c =
-    simp (sym (c .before .before .before .has-unit-from .ensures) ∙ c .before .before .if1 .left, ap not (sym (c .before .has-feasible .ensures)) ∙ c .if2 .taken)
+    simp (sym (c .before .before .before .before .has-unit-from .ensures) ∙ c .before .before .before .if1 .left, ap (λ (z : Sizes). not (hasSet z)) (sym (c .before .before .feasible-sizes .ensures) ∙ c .enum-told .given .1))
 
 returns-3 : tie.Need-returns-3
-unfolding faultOf
+unfolding faultOf hasFeasible
 returns-3 c =
-    simp (sym (c .before .before .before .has-unit-from .ensures) ∙ c .before .before .if1 .left, ap not (sym (c .before .has-feasible .ensures)) ∙ c .if2 .left)
+    simp (sym (c .before .before .before .before .has-unit-from .ensures) ∙ c .before .before .before .if1 .left, ap (λ (z : Sizes). not (hasSet z)) (sym (c .before .before .feasible-sizes .ensures) ∙ c .enum-told2 .given .1))
 
 pub fault-spec : {M : Type 1} → statement M
-fault-spec = tie.close (tie.spec has-unit-from-requires returns has-feasible-requires returns-2 returns-3)
+fault-spec =
+    tie.close
+    (tie.spec
+    has-unit-from-requires
+    returns
+    feasible-sizes-requires
+    enum-told
+    enum-told-2
+    returns-2
+    returns-3)

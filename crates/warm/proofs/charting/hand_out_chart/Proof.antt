@@ -1,5 +1,5 @@
 -- `warm::charting::hand_out_chart` meets its contract: the total that is compared with the bound is the fewest, and what is drawn is the chart.
-use mathlib.Core.Path.{_≡_, refl, ap, _∙_}
+use mathlib.Core.Path.{_≡_, sym, ap, _∙_}
 use mathlib.Core.Bool.{true, false}
 use Prim.Native.Nat.{_+_, _-_}
 use native.Mathlib.Omega.{arith}
@@ -7,14 +7,15 @@ use borrow.Author.Needs.{needs}
 use denote.Ref.{now}
 use Rattle.plans.specs.Switch.{total}
 use Rattle.format.specs.Answer.{Given}
-use Rattle.format.specs.Format.{boundOf, startOf}
+use Rattle.format.specs.Format.{unitsOf, boundOf, startOf}
 use Rattle.promises.specs.Chart.{onWords, offWords, charted}
-use Rattle.promises.specs.Common.{refusedReply, fullReply}
+use Rattle.promises.specs.Common.{limitsOn, refusedReply, fullReply}
 use Rattle.promises.specs.Plan.{supportOn}
 use Rattle.promises.proofs.Charts.{words-length}
 use Rattle.promises.proofs.Plans.{over-bound, in-bound}
 use Rattle.promises.proofs.Read.{was-opened, many-steps, start-is, bound-is, units-are, satisfiable, uppers-below}
 use Rattle.plans.proofs.Laid.{sets-first}
+use Rattle.plans.proofs.Sized.{sized-satisfiable, sized-below, sized-support, sized-chart}
 use Rattle.campaign.proofs.Decoded.{lent-words, lent-plan, many-limits, rows-are, rows-sound}
 use Rattle.warm.proofs.charting.hand_out_chart.Statement.{statement}
 use Rattle.warm.proofs.charting.hand_out_chart.Tie as tie
@@ -75,7 +76,7 @@ draw-whole-requires c κs =
     let made = c .before .before .before .before .before .before .before .before .before .before .before .before .before .before .plan-read .ensures in
     let few = was-opened s e .sound .few-units in
     rw (lent-words s e (now (k .args .rows)) (made .0) (k .pre .1 .0), lent-plan s e (now (k .args .sets)) (made .1 .0) (k .pre .1 .1 .0), rows-are s e, start-is s e, units-are s e)
-    (rows-sound s e, (satisfiable s e, (uppers-below s e, (omega (arith, few, units-are s e), (refl, (omega (arith, many-limits s e, k .pre .1 .1 .1 .0), omega (arith, many-limits s e, k .pre .1 .1 .1 .1)))))))
+    (rows-sound s e, (sized-satisfiable (limitsOn s) (satisfiable s e), (sized-below (unitsOf s) (limitsOn s) (uppers-below s e), (omega (arith, few, units-are s e), (sym (sized-support (startOf s) (limitsOn s)), (omega (arith, many-limits s e, k .pre .1 .1 .1 .0), omega (arith, many-limits s e, k .pre .1 .1 .1 .1)))))))
 
 same-length-3 : tie.Need-same-length-3
 same-length-3 c = search needs
@@ -101,7 +102,7 @@ returns-2 c =
     let within = c .before .before .before .before .before .before .before .before .before .before .before .before .before .if1 .left in
     let slack : total (startOf s) (supportOn s) + (k .args .x .header .bound - c .before .before .before .before .before .before .before .before .before .before .before .before .before .before .before .before .before .before .before .plan-read .result) ≡ boundOf s = omega (arith, made .1 .1, bound-is s e, within) in
     let drawn =
-    rw (lent-words s e (now (k .args .rows)) (made .0) (k .pre .1 .0), lent-plan s e (now (k .args .sets)) (made .1 .0) (k .pre .1 .1 .0), rows-are s e, start-is s e, units-are s e, slack)
+    rw (lent-words s e (now (k .args .rows)) (made .0) (k .pre .1 .0), lent-plan s e (now (k .args .sets)) (made .1 .0) (k .pre .1 .1 .0), rows-are s e, start-is s e, units-are s e, slack, sized-chart (unitsOf s) (boundOf s) (startOf s) (limitsOn s) true, sized-chart (unitsOf s) (boundOf s) (startOf s) (limitsOn s) false)
     at (c .before .before .before .before .draw-whole .ensures) in
     (λ i. (fullReply (made .1 .1 i) 0, ((drawn .0 ∙ sets-first (onWords s) on (omega (arith, words-length s true, many-steps s e, k .pre .1 .1 .1 .0))) i, (drawn .1 ∙ sets-first (offWords s) off (omega (arith, words-length s false, many-steps s e, k .pre .1 .1 .1 .1))) i)))
     ∙ ap (charted (startOf s) (onWords s) (offWords s) on off) (in-bound s e (omega (arith, made .1 .1, bound-is s e, within)) (Given (supportOn s)))
