@@ -49,8 +49,11 @@ fn has_unit_from(set: u64, d: u32) -> bool {
     d < 64 && set >> d != 0
 }
 
-fn has_feasible(lower: u64, upper: u64, least: u8, greatest: u8) -> bool {
-    lower & !upper == 0 && least <= greatest && lower.count_ones() <= greatest as u32 && least as u32 <= upper.count_ones()
+// The least and the greatest size of a feasible set.
+fn feasible_sizes(x: &Step) -> Option<(u8, u8)> {
+    let few = x.least.max(x.lower.count_ones() as u8);
+    let many = x.greatest.min(x.upper.count_ones() as u8);
+    (x.lower & !x.upper == 0 && few <= many).then_some((few, many))
 }
 
 // Refusals 1 to 3.
@@ -114,7 +117,7 @@ fn check_steps(s: &[u8], n: usize, units: u32) -> Result<(), Refusal> {
         if has_unit_from(x.upper, units) {
             return Err(Refusal(6, i));
         }
-        if !has_feasible(x.lower, x.upper, x.least, x.greatest) {
+        if feasible_sizes(&x).is_none() {
             return Err(Refusal(7, i));
         }
     }
@@ -129,7 +132,7 @@ fn read(s: &[u8]) -> Result<Summary, Refusal> {
     Ok(Summary { n, units, bound: u16_at(s, 10) as u32, start: u64_at(s, 16) })
 }
 
-// The steps of a sheet that was read, as columns.
+// The steps of a sheet that was read, as columns, with the sizes of their feasible sets in the place of their two numbers.
 fn columns(s: &[u8], n: usize) -> Columns {
     let mut c = Columns { lower: [0; STEPS], upper: [0; STEPS], least: [0; STEPS], greatest: [0; STEPS] };
     let mut at = 0;
@@ -138,8 +141,7 @@ fn columns(s: &[u8], n: usize) -> Columns {
         let x = step_at(s, at);
         c.lower[i] = x.lower;
         c.upper[i] = x.upper;
-        c.least[i] = x.least;
-        c.greatest[i] = x.greatest;
+        (c.least[i], c.greatest[i]) = feasible_sizes(&x).unwrap_or((x.least, x.greatest));
     }
     c
 }

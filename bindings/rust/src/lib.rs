@@ -19,6 +19,10 @@
 //! greatest number. Its *warm-ups* in a step are the units that are on there and were off in the step before; before the first step, the
 //! start set is on. Its *total* is the sum over all steps. A plan *meets the sheet* if it is feasible and its total is at most the bound.
 //!
+//! In a step of a sheet that is not refused, so few units may be on: the greater of its least number and the size of its lower set; and so
+//! many: the lesser of its greatest number and the size of its upper set; and any number between. The repository's program `list_sizes`
+//! prints both for each step.
+//!
 //! # The sheet
 //!
 //! A campaign sheet is a block of bytes: a header of 24 bytes, then r records of 24 bytes each. Numbers are little-endian.
