@@ -1,4 +1,5 @@
--- How steps lie in memory: one after the other, four words a step, which are its lower and upper set and its least and greatest number.
+-- How steps lie in memory: one after the other, four words a step, which are its lower and upper set and its least and greatest number. Those of a sheet are
+-- decoded with the sizes of their feasible sets in the place of the two numbers (`sized`).
 use mathlib.Core.Path.{_≡_}
 use Prim.Native.Nat.{ℕ, _+_, _*_, _≤_}
 use mathlib.Core.Bool.{Bool}

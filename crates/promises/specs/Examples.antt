@@ -16,6 +16,7 @@ use Rattle.promises.specs.Plan.{warmPlan}
 use Rattle.promises.specs.Chart.{warmChart}
 use Rattle.promises.specs.Verdict.{warmVerdict}
 use Rattle.promises.specs.Write.{refusedWritten, fullWritten, warmWrite}
+use Rattle.promises.specs.Listing.{sizesListing}
 
 -- ---- sheets
 
@@ -37,13 +38,15 @@ asks lower upper = step lower upper 0 2
 
 -- ---- the table
 
--- a call of an entry on a sheet, or on what a sheet is written from, and lent memory, with its reply and what the memory holds afterwards
+-- a call of an entry on a sheet, or on what a sheet is written from, and lent memory, with its reply and what the memory holds afterwards; or the sizes of a
+-- sheet as text
 pub data Example : Type 0 where
   steps : List ℕ → List Step → StepsReply → List Step → Example
   plan : List ℕ → List ℕ → Reply → List ℕ → Example
   chart : List ℕ → List ℕ → List ℕ → Reply → List ℕ → List ℕ → Example
   verdict : List ℕ → List ℕ → Reply → Example
   write : ℕ → ℕ → ℕ → List Step → List ℕ → Written → List ℕ → Example
+  sizes : List ℕ → List ℕ → Example
 
 abbrev pub Holds : Example → Type 0
 Holds (steps s out reply after) = warmSteps s out ≡ (reply, after)
@@ -51,6 +54,7 @@ Holds (plan s out reply after) = warmPlan s out ≡ (reply, after)
 Holds (chart s on off reply on-after off-after) = warmChart s on off ≡ (reply, (on-after, off-after))
 Holds (verdict s handed reply) = warmVerdict s handed ≡ reply
 Holds (write d bound start xs out reply after) = warmWrite d bound start xs out ≡ (reply, after)
+Holds (sizes s text) = sizesListing s ≡ text
 
 -- every row of a table holds
 abbrev pub All : List Example → Type 0
@@ -142,4 +146,15 @@ writings =
     ∷ write 1 0 0 (replicate 257 nineStep) nines (refusedWritten 11 0) nines
     ∷ write 1 0 0 (replicate 256 nineStep) nines (refusedWritten 12 6168) nines
     ∷ write 1 0 0 [] (replicate 23 9) (refusedWritten 12 24) (replicate 23 9)
+    ∷ []
+
+-- The sizes of steps as text. Four runs with a bound that is too small: "1 1 2", "2 1 2", "3 1 2", "4 1 2". Sizes of two digits: 10 of twelve units at least, and as many as
+-- there are. Limits that allow one size. No step: no line. A step without a feasible set: "refused 7 1".
+unfoldable pub sizings : List Example
+sizings =
+    sizes (fourRuns 2 0) (49 ∷ 32 ∷ 49 ∷ 32 ∷ 50 ∷ 10 ∷ 50 ∷ 32 ∷ 49 ∷ 32 ∷ 50 ∷ 10 ∷ 51 ∷ 32 ∷ 49 ∷ 32 ∷ 50 ∷ 10 ∷ 52 ∷ 32 ∷ 49 ∷ 32 ∷ 50 ∷ 10 ∷ [])
+    ∷ sizes (sheetOf 12 0 0 (step 0 4095 10 255 ∷ [])) (49 ∷ 32 ∷ 49 ∷ 48 ∷ 32 ∷ 49 ∷ 50 ∷ 10 ∷ [])
+    ∷ sizes (justSome 1) (49 ∷ 32 ∷ 49 ∷ 32 ∷ 49 ∷ 10 ∷ [])
+    ∷ sizes noStep []
+    ∷ sizes (justSome 3) (114 ∷ 101 ∷ 102 ∷ 117 ∷ 115 ∷ 101 ∷ 100 ∷ 32 ∷ 55 ∷ 32 ∷ 49 ∷ 10 ∷ [])
     ∷ []
