@@ -16,9 +16,10 @@
  * docs/FORMAT.md says all this at more length. warm_write makes a sheet from steps. No call needs a sheet that was checked before: any bytes of any
  * length get a full reply or one refusal.
  *
- * A set is feasible in a step if it includes the lower set, lies within the upper set, and has a size from the least to the greatest number. If a
- * step has such a set, their sizes are all numbers from the greater of the least number and the size of the lower set to the lesser of the greatest
- * number and the size of the upper set: so few and so many units may be on. The program list_sizes prints both for each step of a sheet.
+ * A set is feasible in a step if it includes the lower set, lies within the upper set, and has a size from the least to the greatest number. Where
+ * there is such a set, the least size of one is the greater of the least number and the size of the lower set, the greatest size is the lesser of
+ * the greatest number and the size of the upper set, and every number between is the size of one too. The program list_sizes prints the two, how
+ * few and how many units may be on, for each step of a sheet.
  *
  * A plan has one word for each step: the set of units that are on. It is feasible if the set of every step is. Its warm-ups in a step are the units
  * that are on there and off in the step before; for the first step the start set is the step before. Its total is the sum over all steps. The

@@ -19,9 +19,9 @@
 //! greatest number. Its *warm-ups* in a step are the units that are on there and were off in the step before; before the first step, the
 //! start set is on. Its *total* is the sum over all steps. A plan *meets the sheet* if it is feasible and its total is at most the bound.
 //!
-//! In a step of a sheet that is not refused, so few units may be on: the greater of its least number and the size of its lower set; and so
-//! many: the lesser of its greatest number and the size of its upper set; and any number between. The repository's program `list_sizes`
-//! prints both for each step.
+//! In a step that has a feasible set, the least size of one is the greater of the least number and the size of the lower set, the greatest
+//! size is the lesser of the greatest number and the size of the upper set, and every number between is the size of one too. The
+//! repository's program `list_sizes` prints the two, how few and how many units may be on, for each step of a sheet.
 //!
 //! # The sheet
 //!

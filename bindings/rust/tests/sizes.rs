@@ -38,16 +38,19 @@ fn sizes(step: &Step, units: usize) -> Option<(u32, u32)> {
 /// What the program must print for a campaign.
 fn expected(campaign: &Campaign, tally: &mut Tally) -> String {
     let mut lines = String::new();
+    let mut several = 0;
     for (i, step) in campaign.steps.iter().enumerate() {
         let number = i + 1;
         let Some((few, many)) = sizes(step, campaign.units) else {
             tally.add_refusal(7);
             return format!("refused 7 {number}\n");
         };
-        tally.add(if few == many { "one size" } else { "several sizes" }, 1);
+        several += u64::from(few < many);
         lines += &format!("{number} {few} {many}\n");
     }
     tally.add("sheets with sizes", 1);
+    tally.add("one size", campaign.steps.len() as u64 - several);
+    tally.add("several sizes", several);
     lines
 }
 
@@ -55,8 +58,9 @@ fn expected(campaign: &Campaign, tally: &mut Tally) -> String {
 fn any_step(units: usize, random: &mut Random) -> Step {
     let all = units_below(units);
     let (lower, upper) = (random.part(all, 5), all & !random.part(all, 5));
-    let greatest = if random.one_in(4) { random.byte() } else { random.between(0, units) as u8 };
-    Step::new(lower, upper, random.between(0, units) as u8, greatest, random.word() as u32)
+    let mut number = || if random.one_in(4) { random.byte() } else { random.between(0, units) as u8 };
+    let (least, greatest) = (number(), number());
+    Step::new(lower, upper, least, greatest, random.word() as u32)
 }
 
 #[test]

@@ -6,8 +6,8 @@ use Prim.Native.Nat.{ℕ, _-_, _*_, _≤_}
 use native.Mathlib.Omega.{arith}
 use lib.ListN.{length, length-map, take}
 use lib.Seq.{sets}
-use Rattle.plans.specs.declared.Limits.{Limits}
-use Rattle.plans.specs.Rows.{rowsOf, stepsIn, sized, Rows}
+use Rattle.plans.specs.Rows.{rowsOf, stepsIn, Rows}
+use Rattle.plans.specs.Switch.{sized}
 use Rattle.plans.proofs.Laid.{rows-length, rows-steps, rows-laid, sets-first, sets-part}
 use Rattle.format.specs.declared.Summary.{Summary}
 use Rattle.format.specs.Answer.{Given}
@@ -15,14 +15,10 @@ use Rattle.format.specs.Chain.{stepsFrom}
 use Rattle.format.specs.Format.{limitsOf}
 use Rattle.format.specs.Reading.{stepsOf}
 use Rattle.format.specs.Stages.{summaryRead}
-use Rattle.promises.specs.Common.{limitsOn, written}
+use Rattle.promises.specs.Common.{limitsOn, sizedOn, written}
 use Rattle.promises.specs.Plan.{supportOn}
 use Rattle.promises.proofs.Plans.{plan-length-on}
 use Rattle.promises.proofs.Read.{was-opened, many-steps}
-
--- the steps that the words are
-abbrev pub sizedOn : List ℕ → List Limits
-sizedOn s = map sized (limitsOn s)
 
 module _ (s : List ℕ) {x : Summary} (e : summaryRead s ≡ Given x) where
   -- as many steps as the summary says, and four words for each

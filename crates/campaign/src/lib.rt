@@ -7,17 +7,16 @@ use switch::check::Checked;
 use switch::check::check_plan;
 use switch::plan::plan;
 ghost use mathlib.Core.Path.{_≡_};
-ghost use mathlib.Core.List.{map};
 ghost use Prim.Native.Nat.{_*_, _≤_};
 ghost use lib.ListN.{length};
 ghost use lib.Seq.{sets};
 ghost use Rattle.plans.specs.Plans.{allows, isFeasible};
-ghost use Rattle.plans.specs.Rows.{rowSize, rowsOf, sized};
+ghost use Rattle.plans.specs.Rows.{rowSize, rowsOf};
 ghost use Rattle.plans.specs.Switch.{total};
 ghost use Rattle.format.specs.Answer.{Given};
 ghost use Rattle.format.specs.Format.{startOf};
 ghost use Rattle.format.specs.Stages.{summaryRead};
-ghost use Rattle.promises.specs.Common.{limitsOn};
+ghost use Rattle.promises.specs.Common.{limitsOn, sizedOn};
 ghost use Rattle.promises.specs.Plan.{supportOn};
 
 // The words of the steps of a sheet that was read, into the first places of `rows`, its plan, into those of `out`, and the plan's total.
@@ -25,7 +24,7 @@ pub fn plan_read(sheet: &[u8], x: Summary, rows: &mut [u64], out: &mut [u64]) ->
     requires { ⌜ summaryRead (now sheet) ≡ Given x ⌝ }
     requires { ⌜ rowSize * x .steps ≤ length (now rows) ⌝ }
     requires { ⌜ x .steps ≤ length (now out) ⌝ }
-    ensures { λ r. ⌜ now (rows .exit) ≡ sets (now (rows .entry)) 0 (rowsOf (map sized (limitsOn (now (sheet .entry))))) ⌝ }
+    ensures { λ r. ⌜ now (rows .exit) ≡ sets (now (rows .entry)) 0 (rowsOf (sizedOn (now (sheet .entry)))) ⌝ }
     ensures { λ r. ⌜ now (out .exit) ≡ sets (now (out .entry)) 0 (supportOn (now (sheet .entry))) ⌝ }
     ensures { λ r. ⌜ r ≡ total (startOf (now (sheet .entry))) (supportOn (now (sheet .entry))) ⌝ }
 {

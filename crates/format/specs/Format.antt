@@ -133,6 +133,6 @@ nextOf s (suc j) = u16At s (recordOffset (suc j) + nextAt)
 
 -- ---- a step
 
--- what the planner sees of it: a step without its tag
+-- a step without its tag: what plans, and sizes, are about
 abbrev pub limitsOf : Step → Limits
 limitsOf x = limits (x .lower) (x .upper) (x .least) (x .greatest)

@@ -1,13 +1,9 @@
-// Prints the listing of the sheet that comes on standard input: its plan, or the refusal that it gets.
+// Prints the plan of the sheet that comes on standard input, or the refusal that it gets.
 use libc::STDIN_FILENO;
 use libc::STDOUT_FILENO;
-use sheet::Sheet;
-
-// One byte more than the longest sheet, so that a longer input is refused and not cut to one that passes.
-const SPACE: usize = Sheet::LONGEST + 1;
 
 fn main() {
-    let mut input = [0u8; SPACE];
+    let mut input = [0u8; listing::INPUT];
     let got = io::read_full(STDIN_FILENO, &mut input);
     let mut text = [0u8; listing::LONGEST];
     let length = listing::list_plan(&input[..got], &mut text);

@@ -1,10 +1,9 @@
 -- The loop over the steps of a sheet that puts their sizes: the line of the step that comes next, and its length.
 use mathlib.Core.Path.{_≡_, ap}
 use mathlib.Core.List.{List, [], _++_, map}
-use Prim.Native.Nat.{ℕ, suc, _+_, _-_, _*_, _^_, _≤_, _<_}
+use Prim.Native.Nat.{ℕ, _+_, _-_, _*_, _^_, _≤_, _<_}
 use native.Mathlib.Omega.{arith}
 use lib.ListN.{length, length-append}
-use Rattle.units.specs.Sets.{size}
 use Rattle.units.specs.declared.Sizes.{Sizes}
 use Rattle.units.specs.declared.Sizes.the-variants.{Between, NoSet}
 use Rattle.units.proofs.Limits.{either-way}
@@ -15,6 +14,7 @@ use Rattle.format.specs.Chain.{stepsFrom}
 use Rattle.format.specs.Format.{limitsOf, nextOf, stepOf}
 use Rattle.promises.specs.Digits.{decimal}
 use Rattle.promises.specs.Listing.{field, blank, lineEnd, sizesLine, sizesLines}
+use Rattle.sheet.proofs.Along.{steps-next, steps-none}
 use Rattle.listing.specs.Room.{sizesMost, TwoDigits}
 use Rattle.listing.proofs.Numerals.{decimal-width}
 use Rattle.listing.proofs.Putting.{Putting, none-put}
@@ -54,13 +54,9 @@ sizing-begun s n out₀ =
 
 module _ (s : List ℕ) (n at i : ℕ) where
   pub next-sizes : i < n → sizesLeft s n at i ≡ sizesLine (i + 1) (sizesOf (limitsOf (stepOf s (nextOf s at)))) ++ sizesLeft s n (nextOf s at) (i + 1)
-  unfolding stepsFrom sizesLines
-  next-sizes h =
-      let left : n - i ≡ suc (n - (i + 1)) = omega arith in
-      ap (λ (k : ℕ). sizesLines (i + 1) (map limitsOf (stepsFrom s at k))) left
+  unfolding sizesLines
+  next-sizes h = ap (λ xs. sizesLines (i + 1) (map limitsOf xs)) (steps-next s n at i h)
 
   pub no-sizes : n ≤ i → sizesLeft s n at i ≡ []
-  unfolding stepsFrom sizesLines
-  no-sizes h =
-      let none : n - i ≡ 0 = omega arith in
-      ap (λ (k : ℕ). sizesLines (i + 1) (map limitsOf (stepsFrom s at k))) none
+  unfolding sizesLines
+  no-sizes h = ap (λ xs. sizesLines (i + 1) (map limitsOf xs)) (steps-none s n at i h)

@@ -24,10 +24,6 @@ sizesMost = 10
 abbrev pub longestListing : ℕ
 longestListing = firstMost + recordLimit * stepMost + totalMost
 
--- a listing of sizes has a line for each step
-abbrev pub longestSizes : ℕ
-longestSizes = recordLimit * sizesMost
-
 -- each size has at most two digits
 abbrev pub TwoDigits : Sizes → Type 0
 TwoDigits (Between few many) = (few < 100) × (many < 100)

@@ -28,7 +28,10 @@ ghost use Rattle.promises.specs.Listing.{planLines, listing, listPlan, listSize
 ghost use Rattle.listing.specs.Room.{longestListing};
 ghost use Rattle.writer.specs.Placed.{Placed};
 
-// No listing is longer: a first line, a line for each step of the longest sheet, and a last line.
+// Room for the bytes of a sheet: one more than the longest has, so that a longer input is refused and not cut to one that passes.
+pub const INPUT: usize = Sheet::LONGEST + 1;
+
+// No listing of a plan is longer: a first line, a line for each step of the longest sheet, and a last line.
 pub const LONGEST: usize = FIRST_LINE + Sheet::RECORD_LIMIT * STEP_LINE + TOTAL_LINE;
 
 // No listing of sizes is longer: a line for each step of the longest sheet.
@@ -52,7 +55,7 @@ fn put_plan(x: Summary, sets: &[u64], total: u32, out: &mut [u8]) -> usize
     put_total_line(total, out, after_steps)
 }
 
-// Puts the listing of a sheet that was read, and gives its length. It works in `rows` and `sets`.
+// Puts the listing of the plan of a sheet that was read, and gives its length. It works in `rows` and `sets`.
 fn list_read(sheet: &[u8], x: Summary, rows: &mut [u64], sets: &mut [u64], out: &mut [u8]) -> usize
     requires { ⌜ summaryRead (now sheet) ≡ Given x ⌝ }
     requires { ⌜ rowSize * x .steps ≤ length (now rows) ⌝ }
@@ -68,7 +71,7 @@ fn list_read(sheet: &[u8], x: Summary, rows: &mut [u64], sets: &mut [u64], out: 
     put_plan(x, sets, total, out)
 }
 
-// Puts the listing of any bytes into the first places of the output, and gives its length.
+// Puts the listing of the plan of any bytes into the first places of the output, and gives its length.
 pub fn list_plan(sheet: &[u8], out: &mut [u8; LONGEST]) -> usize
     ensures { λ r. ⌜ (r, now (out .exit)) ≡ listPlan (now (sheet .entry)) (now (out .entry)) ⌝ }
 {
@@ -82,7 +85,7 @@ pub fn list_plan(sheet: &[u8], out: &mut [u8; LONGEST]) -> usize
     }
 }
 
-// Puts the sizes of the steps of any bytes into the first places of the output, and gives the length of that text.
+// Puts the listing of the sizes of any bytes into the first places of the output, and gives its length.
 pub fn list_sizes(sheet: &[u8], out: &mut [u8; LONGEST_SIZES]) -> usize
     ensures { λ r. ⌜ (r, now (out .exit)) ≡ listSizes (now (sheet .entry)) (now (out .entry)) ⌝ }
 {

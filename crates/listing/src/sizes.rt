@@ -2,9 +2,9 @@
 use super::digits::put_decimal;
 use super::lines::put_field;
 use sheet::record::follow;
+use sheet::record::sizes_of;
 use sheet::record::step_at;
 use units::Sizes;
-use units::feasible_sizes;
 use writer::put::put_byte;
 ghost use mathlib.Core.List.{map};
 ghost use Prim.Native.Nat.{_+_, _*_, _≤_, _<_};
@@ -18,7 +18,7 @@ ghost use Rattle.writer.specs.Placed.{Placed};
 // The most bytes of a line.
 pub(crate) const SIZES_LINE: usize = 10;
 
-// "1 2 5": the step, and the least and the greatest size of a feasible set there.
+// "1 2 5": the step, and the least and the greatest size of a feasible set there. Where there is none, nothing is put.
 fn put_sizes_line(step: u32, sizes: Sizes, out: &mut [u8], at: usize) -> usize
     requires { ⌜ step < 1000 ⌝ }
     requires { ⌜ TwoDigits sizes ⌝ }
@@ -48,8 +48,7 @@ pub(crate) fn put_sizes_lines(sheet: &[u8], n: u32, out: &mut [u8]) -> usize
     let mut i = 0;
     while i < n {
         at = follow(sheet, at);
-        let x = step_at(sheet, at);
-        let sizes = feasible_sizes(x.lower, x.upper, x.least, x.greatest);
+        let sizes = sizes_of(step_at(sheet, at));
         i += 1;
         next = put_sizes_line(i, sizes, out, next);
     }

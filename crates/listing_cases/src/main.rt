@@ -16,6 +16,7 @@ use trials::layout::put_link;
 use trials::layout::put_most_steps;
 use trials::tally::Tally;
 ghost use Prim.Native.Nat.{_+_, _≤_, _<_};
+ghost use lib.ListN.{length};
 ghost use Rattle.format.specs.Format.{recordSize, recordLimit, longest};
 
 // Whether the listing of the first bytes is that text.
@@ -173,17 +174,43 @@ fn has_wide_listing(bytes: &Space) -> bool {
     is_wide_listing(&text[..count])
 }
 
-// Tries a full sheet in which the two halves of the units are on in turns, so that each step has 32 switches, and the same with one byte more.
+// Whether a text is the listing of the sizes of a full sheet, with these endings in turns: 9 lines of 8 bytes, 90 of 9 and 157 of 10.
+fn is_wide_sizes(text: &[u8], odd: &[u8], even: &[u8]) -> bool
+    requires { ⌜ length (now odd) ≤ 100 ⌝ }
+    requires { ⌜ length (now even) ≤ 100 ⌝ }
+{
+    text.len() == 2452 && has_lines(text, 0, odd, even)
+}
+
+// Whether a full sheet has it.
+fn has_wide_sizes(bytes: &Space, odd: &[u8], even: &[u8]) -> bool
+    requires { ⌜ length (now odd) ≤ 100 ⌝ }
+    requires { ⌜ length (now even) ≤ 100 ⌝ }
+{
+    let whole: &[u8] = bytes;
+    let mut text = [0u8; listing::LONGEST_SIZES];
+    let count = listing::list_sizes(&whole[0..Sheet::LONGEST], &mut text);
+    is_wide_sizes(&text[..count], odd, even)
+}
+
+// Tries a full sheet in which the two halves of the units are on in turns, so that each step has 32 switches.
 fn try_halves() -> Tally {
     let mut bytes = [0u8; SPACE];
     put_most(&mut bytes, just(u64::MAX >> 32), just(u64::MAX << 32));
-    let wide = Tally::of(has_wide_listing(&bytes));
-    wide.plus(try_both(
+    let plan = Tally::of(has_wide_listing(&bytes));
+    plan.plus(Tally::of(has_wide_sizes(&bytes, b" 32 32\n", b" 32 32\n")))
+}
+
+// Tries the same with one byte more.
+fn try_too_long() -> Tally {
+    let mut bytes = [0u8; SPACE];
+    put_most(&mut bytes, just(u64::MAX >> 32), just(u64::MAX << 32));
+    try_both(
         &bytes,
         Sheet::LONGEST + 1,
         b"refused 1 0\n",
         b"refused 1 0\n",
-    ))
+    )
 }
 
 // The limits of a step in which all units may be on.
@@ -196,20 +223,7 @@ fn any_of(lower: u64, least: u8, greatest: u8) -> Limits {
     }
 }
 
-// Whether a text is the listing of sizes of a full sheet in which 32 to 64 units may be on and 10 or 11, in turns: 9 lines of 8 bytes, 90 of 9 and 157 of 10.
-fn is_wide_sizes(text: &[u8]) -> bool {
-    text.len() == 2452 && has_lines(text, 0, b" 32 64\n", b" 10 11\n")
-}
-
-// Whether that sheet has it.
-fn has_wide_sizes(bytes: &Space) -> bool {
-    let whole: &[u8] = bytes;
-    let mut text = [0u8; listing::LONGEST_SIZES];
-    let count = listing::list_sizes(&whole[0..Sheet::LONGEST], &mut text);
-    is_wide_sizes(&text[..count])
-}
-
-// Tries that sheet.
+// Tries a full sheet in which 32 to 64 units may be on and 10 or 11, in turns.
 fn try_many_sizes() -> Tally {
     let mut bytes = [0u8; SPACE];
     put_most(
@@ -217,7 +231,7 @@ fn try_many_sizes() -> Tally {
         any_of(u64::MAX >> 32, 0, u8::MAX),
         any_of(0, 10, 11),
     );
-    Tally::of(has_wide_sizes(&bytes))
+    Tally::of(has_wide_sizes(&bytes, b" 32 64\n", b" 10 11\n"))
 }
 
 fn main() {
@@ -226,6 +240,7 @@ fn main() {
         .plus(try_bound())
         .plus(try_link_back())
         .plus(try_halves())
+        .plus(try_too_long())
         .plus(try_many_sizes());
     all.write(b"listings");
 }

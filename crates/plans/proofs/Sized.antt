@@ -1,21 +1,22 @@
 -- A step with the least and the greatest size of its feasible sets in the place of its two numbers has the same feasible sets (`sized-allows`), and FindSupport
 -- takes the same set in it (`sized-set`), since what that begins with includes the lower set and lies within the upper one. So the plans, the chart and the
--- plan that is handed out are those of the steps as they were.
+-- plan that is handed out are those of the steps as they are.
 use mathlib.Core.Path.{_≡_, refl, sym, ap, ap₂, _∙_, subst, fun-ext}
 use mathlib.Core.Logic.{_↔_}
 use mathlib.Core.Bool.{Bool, true, false, cond, _&&_}
 use mathlib.Core.List.{List, [], _∷_, map}
-use Prim.Native.Nat.{ℕ, _+_, _-_, _^_, _<_, _≤_, min, max}
+use Prim.Native.Nat.{ℕ, _+_, _-_, _^_, _<_, _≤_}
 use native.Mathlib.Omega.{arith}
 use lib.ListN.{length, length-map}
-use Rattle.units.specs.Sets.{bit, union, intersection, difference, contains, size, Subset}
+use Rattle.units.specs.Sets.{union, intersection, difference, contains, size, Subset}
+use Rattle.units.specs.Limits.{leastSize, greatestSize}
 use Rattle.units.proofs.Limits.{either-way, some-feasible}
 use Rattle.units.proofs.Sets.{bit-difference, bit-intersection, bit-union, size-difference-le, size-mono}
 use Rattle.plans.specs.declared.Limits.{Limits}
 use Rattle.plans.specs.Plans.{allows, Below, select, below, prefixed, isFeasible, plansOf, plansWithin, canBeOn, canBeOff, canBe}
-use Rattle.plans.specs.Rows.{limits, sizedBy, sized}
+use Rattle.plans.specs.Rows.{limits}
 use Rattle.plans.specs.Support.{nextRequired, nextForbidden, requiredFirst, ranksBefore, taken, supportSet, supportFrom, findSupport}
-use Rattle.plans.specs.Switch.{Allows, Satisfiable}
+use Rattle.plans.specs.Switch.{Allows, sizedBy, sized, Satisfiable}
 use Rattle.plans.proofs.AllPlans.{allows-exactly}
 use Rattle.plans.proofs.Chosen.{taken-chosen}
 use Rattle.plans.proofs.Orders.{Ordered, mirror-ordered}
@@ -24,14 +25,14 @@ use Rattle.plans.proofs.Ranks.{ranks-ordered}
 -- ---- one step
 
 module _ (s : Limits) where
-  abbrev few : ℕ
-  few = max (s .least) (size (s .lower))
+  abbrev low : ℕ
+  low = leastSize (s .lower) (s .least)
 
-  abbrev many : ℕ
-  many = min (s .greatest) (size (s .upper))
+  abbrev high : ℕ
+  high = greatestSize (s .upper) (s .greatest)
 
-  -- what holds of the step as it was and of the one with both sizes, where the sizes are in order, holds of `sized s`
-  by-sizes : (P : Limits → Type 0) → (Subset (s .lower) (s .upper) → few ≤ many → P (limits (s .lower) (s .upper) few many)) → P s → P (sized s)
+  -- what holds of the step as it is, and of the one with both sizes where these are in order, holds of `sized s`
+  by-sizes : (P : Limits → Type 0) → (Subset (s .lower) (s .upper) → low ≤ high → P (limits (s .lower) (s .upper) low high)) → P s → P (sized s)
   unfolding sized
   by-sizes P some none = either-way (s .lower) (s .upper) (s .least) (s .greatest) (λ z. P (sizedBy s z)) some (λ h. none)
 
@@ -45,10 +46,10 @@ module _ (s : Limits) where
   pub sized-allows : (x : ℕ) → Allows (sized s) x ↔ Allows s x
   sized-allows x = by-sizes (λ t. Allows t x ↔ Allows s x) (λ h l. (wider, narrower)) (λ f. f, λ f. f)
     where
-      wider : Allows (limits (s .lower) (s .upper) few many) x → Allows s x
+      wider : Allows (limits (s .lower) (s .upper) low high) x → Allows s x
       wider f = record { includes = f .includes; within = f .within; enough = omega (arith, f .enough); few = omega (arith, f .few) }
 
-      narrower : Allows s x → Allows (limits (s .lower) (s .upper) few many) x
+      narrower : Allows s x → Allows (limits (s .lower) (s .upper) low high) x
       narrower f =
           record {
             includes = f .includes;
@@ -85,18 +86,18 @@ module _ (s : Limits) where
           let kept = difference begun (leaving k) in
           union kept (taken ranks (least - size kept) (difference (s .upper) kept))
 
-      go : Subset (s .lower) (s .upper) → few ≤ many → made (size begun - many) few ≡ made (size begun - s .greatest) (s .least)
+      go : Subset (s .lower) (s .upper) → low ≤ high → made (size begun - high) low ≡ made (size begun - s .greatest) (s .least)
       go h l =
           let within : Subset begun (s .upper) =
           λ u. omega (arith, h u, bit-union (intersection before (s .upper)) (s .lower) u, bit-intersection before (s .upper) u) in
-          let leave : size begun - many ≡ size begun - s .greatest = omega (arith, size-mono begun (s .upper) within) in
+          let leave : size begun - high ≡ size begun - s .greatest = omega (arith, size-mono begun (s .upper) within) in
           let room : size begun - s .greatest ≤ size (difference begun (s .lower)) = omega (arith, size-difference-le begun (s .lower)) in
           let chosen = taken-chosen (mirror-ordered o) (size begun - s .greatest) (difference begun (s .lower)) room in
           let kept = difference begun (leaving (size begun - s .greatest)) in
           let stays : Subset (s .lower) kept =
           λ u. omega (arith, chosen .inside u, bit-difference begun (s .lower) u, bit-difference begun (leaving (size begun - s .greatest)) u, bit-union (intersection before (s .upper)) (s .lower) u) in
-          let join : few - size kept ≡ s .least - size kept = omega (arith, size-mono (s .lower) kept stays) in
-          ap (λ (k : ℕ). made k few) leave ∙ ap (λ (k : ℕ). union kept (taken ranks k (difference (s .upper) kept))) join
+          let join : low - size kept ≡ s .least - size kept = omega (arith, size-mono (s .lower) kept stays) in
+          ap (λ (k : ℕ). made k low) leave ∙ ap (λ (k : ℕ). union kept (taken ranks k (difference (s .upper) kept))) join
 
 -- ---- all steps
 

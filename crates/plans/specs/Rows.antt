@@ -1,14 +1,11 @@
--- How steps lie in memory: one after the other, four words a step, which are its lower and upper set and its least and greatest number. Those of a sheet are
--- decoded with the sizes of their feasible sets in the place of the two numbers (`sized`).
+-- How steps lie in memory: one after the other, four words a step, which are its lower and upper set and its least and greatest number. (Of a step
+-- that is decoded from a sheet, the two numbers are the sizes of its feasible sets: `sized` in specs/Switch.antt.)
 use mathlib.Core.Path.{_≡_}
 use Prim.Native.Nat.{ℕ, _+_, _*_, _≤_}
 use mathlib.Core.Bool.{Bool}
 use mathlib.Core.List.{List, [], _∷_}
 use lib.ListN.{length, getD, drop}
-use Rattle.units.specs.declared.Sizes.{Sizes}
-use Rattle.units.specs.declared.Sizes.the-variants.{Between, NoSet}
 use Rattle.plans.specs.Support.{ranksBefore}
-use Rattle.plans.specs.Switch.{sizesOf}
 use Rattle.plans.specs.declared.Limits.{Limits}
 
 -- the words of a step
@@ -22,14 +19,6 @@ stepLimit = 256
 -- a step of these words
 abbrev pub limits : ℕ → ℕ → ℕ → ℕ → Limits
 limits l u m g = record { lower = l; upper = u; least = m; greatest = g }
-
--- the step with the least and the greatest size of its feasible sets in the place of its two numbers, or as it is where it has no such set
-abbrev pub sizedBy : Limits → Sizes → Limits
-sizedBy s (Between few many) = limits (s .lower) (s .upper) few many
-sizedBy s NoSet = s
-
-unfoldable pub sized : Limits → Limits
-sized s = sizedBy s (sizesOf s)
 
 -- the words of some steps
 unfoldable pub rowsOf : List Limits → List ℕ

@@ -6,6 +6,7 @@ use mathlib.Core.List.{List, [], _∷_}
 use Rattle.plans.specs.declared.Limits.{Limits}
 use Rattle.units.specs.Limits.{Feasible, feasibleSizes, hasFeasible}
 use Rattle.units.specs.declared.Sizes.{Sizes}
+use Rattle.units.specs.declared.Sizes.the-variants.{Between, NoSet}
 use Rattle.units.specs.Sets.{difference, size}
 
 -- x is a feasible set of the step (fit, in docs/FORMAT.md)
@@ -15,6 +16,14 @@ Allows s x = Feasible (s .lower) (s .upper) (s .least) (s .greatest) x
 -- the least and the greatest size of a feasible set of the step, or that there is none
 abbrev pub sizesOf : Limits → Sizes
 sizesOf s = feasibleSizes (s .lower) (s .upper) (s .least) (s .greatest)
+
+-- the step with these two sizes in the place of its two numbers, or as it is where there is none
+abbrev pub sizedBy : Limits → Sizes → Limits
+sizedBy s (Between few many) = record { lower = s .lower; upper = s .upper; least = few; greatest = many }
+sizedBy s NoSet = s
+
+unfoldable pub sized : Limits → Limits
+sized s = sizedBy s (sizesOf s)
 
 -- a plan has one set for each step, and each is one that the step allows, whatever a step is and what it allows
 abbrev pub Throughout : {S : Type 0} → (S → ℕ → Type 0) → List S → List ℕ → Type 0

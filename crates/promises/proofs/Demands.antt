@@ -1,26 +1,28 @@
 -- What was asked for, as theorems over the definitions in specs/ that the entries are proved to equal. Open this file first.
 --
 -- Demand 1. For any input and any lent memory, an entry gives a full reply or one refusal of a fixed list with its place. A refusal is given
--- exactly when its cause holds and no earlier one of the table does (docs/FORMAT.md), and it leaves the lent memory as it came. The table is the list of
--- causes that stands in the statement: `stepsRefusals`, with `readCauses` in it, or `writeRefusals` are one line for each cause, in the order of the checks.
+-- exactly when its cause holds and no earlier one of the table does (docs/FORMAT.md), and it leaves the lent memory as it came (the listings, which are texts, put
+-- a line that says it). The table is the list of causes that stands in the statement: `stepsRefusals`, with `readCauses` in it, or `writeRefusals` are one line for each cause, in the order of the checks.
 use mathlib.Core.Path.{_≡_, refl, sym, ap, _∙_}
 use mathlib.Core.Logic.{_↔_, _⊎_, inl, inr}
 use mathlib.Core.Bool.{true, false}
 use mathlib.Core.List.{List, [], _++_, map}
 use Prim.Native.Nat.{ℕ, suc, _+_, _^_, _≤_, _<_, min}
 use native.Mathlib.Omega.{arith}
-use lib.ListN.{length, take, drop}
+use lib.ListN.{length, length-map, take, drop}
 use lib.Seq.{take-at}
-use Rattle.units.specs.Limits.{Feasible, feasibleSizes, HasSize, hasFeasible}
+use Rattle.units.specs.Limits.{Feasible, HasSize, hasFeasible}
 use Rattle.units.specs.Sets.{size}
 use Rattle.units.specs.declared.Sizes.the-variants.{Between}
-use Rattle.units.proofs.Limits.{some-feasible, sizes-exact, sizes-ordered}
-use Rattle.plans.specs.Switch.{total}
+use Rattle.units.proofs.Limits.{some-feasible, sizes-exact, sizes-ordered, some-sizes}
+use Rattle.plans.specs.Rows.{stepAt}
+use Rattle.plans.specs.Switch.{Allows, sizesOf, total}
+use Rattle.plans.proofs.Laid.{feasible-at}
 use Rattle.format.specs.declared.Step.{Step}
 use Rattle.format.specs.Agreement.{Agree, untagged, readUntagged}
 use Rattle.format.specs.Answer.{Refused, Given, unless}
 use Rattle.format.specs.Chain.{following, chainOf, linkCauses}
-use Rattle.format.specs.Format.{sheetLength, unitsOf, recordsOf, boundOf, startOf}
+use Rattle.format.specs.Format.{sheetLength, limitsOf, unitsOf, recordsOf, boundOf, startOf}
 use Rattle.format.specs.Reading.{stepsCauses, recordsOn, stepsOf, readCauses, campaignOf, campaignRead}
 use Rattle.format.specs.Writing.{sheetOf, numbersFrom, AllWide}
 use Rattle.format.proofs.Agreements.{same-read}
@@ -42,7 +44,7 @@ use Rattle.promises.proofs.Charts.{words-length, words-cells, no-others
 use Rattle.promises.proofs.Exactly.{exact, no-first}
 use Rattle.promises.proofs.Likeness.{alike-reply, alike-list, alike-plan, alike-chart, alike-verdict, alike-listing, alike-sizes}
 use Rattle.promises.proofs.Plans.{plan-fewest, plan-length-on, over-bound, in-bound, plan-open, plan-given}
-use Rattle.promises.proofs.Read.{passed}
+use Rattle.promises.proofs.Read.{satisfiable, passed}
 use Rattle.promises.proofs.Verdicts.{verdict-given, accepts-exactly, turned-down}
 use Rattle.promises.proofs.Writes.{Limited, limited, write-numbers}
 
@@ -192,15 +194,22 @@ pub a-feasible-set : (x : Step) → hasFeasible (x .lower) (x .upper) (x .least)
     ↔ ((set : ℕ) × Feasible (x .lower) (x .upper) (x .least) (x .greatest) set)
 a-feasible-set x = some-feasible (x .lower) (x .upper) (x .least) (x .greatest)
 
--- The sizes of a step, which are listed: a number is the size of some feasible set exactly if it is one from the least to the greatest, and where there is none
--- (`NoSet`), no number is. The least is at the most the greatest, so that both are sizes of feasible sets.
-pub the-sizes : (x : Step) (k : ℕ)
-    → ((set : ℕ) × (Feasible (x .lower) (x .upper) (x .least) (x .greatest) set × (size set ≡ k)))
-    ↔ HasSize (feasibleSizes (x .lower) (x .upper) (x .least) (x .greatest)) k
+-- The sizes of a step, which are listed. A number is the size of some feasible set exactly if it lies from the least to the greatest; if the step has no sizes
+-- (`NoSet`), no set is feasible.
+pub the-sizes : (x : Step) (k : ℕ) → ((set : ℕ) × (Allows (limitsOf x) set × (size set ≡ k))) ↔ HasSize (sizesOf (limitsOf x)) k
 the-sizes x k = sizes-exact (x .lower) (x .upper) (x .least) (x .greatest) k
 
-pub the-sizes-in-order : (x : Step) (few many : ℕ) → feasibleSizes (x .lower) (x .upper) (x .least) (x .greatest) ≡ Between few many → few ≤ many
+-- the least is at the most the greatest, so that both are sizes of feasible sets
+pub the-sizes-in-order : (x : Step) (few many : ℕ) → sizesOf (limitsOf x) ≡ Between few many → few ≤ many
 the-sizes-in-order x few many = sizes-ordered (x .lower) (x .upper) (x .least) (x .greatest) few many
+
+-- each step of a sheet that passes the checks has sizes, and so a line
+pub each-step-has-sizes : (s : List ℕ) → Passes s → (i : ℕ) → i < length (stepsOf s)
+    → (few : ℕ) × ((many : ℕ) × (sizesOf (stepAt (limitsOn s) i) ≡ Between few many))
+each-step-has-sizes s ok i l =
+    let x = stepAt (limitsOn s) i in
+    some-sizes (x .lower) (x .upper) (x .least) (x .greatest)
+    (feasible-at (limitsOn s) i (omega (arith, length-map (stepsOf s) limitsOf)) (satisfiable s (passed s ok)))
 
 -- the walk along the chain never runs out of links to look at: looking at more gives the same refusal or the same chain
 pub the-walk-ends : (s : List ℕ) (r more : ℕ)

@@ -1,4 +1,4 @@
--- What is known of a sheet that was read: the numbers of its summary, and its steps as the planner sees them.
+-- What is known of a sheet that was read: the numbers of its summary, and its steps without their tags.
 use mathlib.Core.Path.{_≡_, sym, ap, _∙_}
 use mathlib.Core.List.{List, [], _∷_, map}
 use Prim.Native.Nat.{ℕ, _^_, _≤_, _<_}

@@ -1,9 +1,10 @@
--- What several entries share: what the planner sees of a sheet, refusal 8, replies, and what an output holds.
+-- What several entries share: the steps of a sheet as plans are about them, refusal 8, replies, and what an output holds.
 use Prim.Native.Nat.{ℕ}
 use mathlib.Core.List.{List, [], _∷_, _++_, map}
 use lib.Dec.{ltb}
 use lib.ListN.{length, drop}
 use Rattle.plans.specs.declared.Limits.{Limits}
+use Rattle.plans.specs.Switch.{sized}
 use Rattle.format.specs.Answer.{Cause, cause}
 use Rattle.format.specs.Format.{limitsOf}
 use Rattle.format.specs.Reading.{stepsOf}
@@ -12,6 +13,10 @@ use Rattle.promises.specs.declared.Reply.{Reply}
 -- the steps of a sheet, without their tags
 abbrev pub limitsOn : List ℕ → List Limits
 limitsOn s = map limitsOf (stepsOf s)
+
+-- the same with the sizes of their feasible sets in the place of their two numbers: so they are decoded
+abbrev pub sizedOn : List ℕ → List Limits
+sizedOn s = map sized (limitsOn s)
 
 -- refusal 8: a lent output has fewer places than there are steps
 abbrev pub placesCauses : List ℕ → ℕ → List Cause

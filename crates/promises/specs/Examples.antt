@@ -149,12 +149,13 @@ writings =
     ∷ []
 
 -- The sizes of steps as text. Four runs with a bound that is too small: "1 1 2", "2 1 2", "3 1 2", "4 1 2". Sizes of two digits: 10 of twelve units at least, and as many as
--- there are. Limits that allow one size. No step: no line. A step without a feasible set: "refused 7 1".
+-- there are. One size, and no unit: "1 1 1", "1 0 0". No step: no line. A step without a feasible set: "refused 7 1".
 unfoldable pub sizings : List Example
 sizings =
     sizes (fourRuns 2 0) (49 ∷ 32 ∷ 49 ∷ 32 ∷ 50 ∷ 10 ∷ 50 ∷ 32 ∷ 49 ∷ 32 ∷ 50 ∷ 10 ∷ 51 ∷ 32 ∷ 49 ∷ 32 ∷ 50 ∷ 10 ∷ 52 ∷ 32 ∷ 49 ∷ 32 ∷ 50 ∷ 10 ∷ [])
     ∷ sizes (sheetOf 12 0 0 (step 0 4095 10 255 ∷ [])) (49 ∷ 32 ∷ 49 ∷ 48 ∷ 32 ∷ 49 ∷ 50 ∷ 10 ∷ [])
     ∷ sizes (justSome 1) (49 ∷ 32 ∷ 49 ∷ 32 ∷ 49 ∷ 10 ∷ [])
+    ∷ sizes (sheetOf 1 0 0 (step 0 0 0 255 ∷ [])) (49 ∷ 32 ∷ 48 ∷ 32 ∷ 48 ∷ 10 ∷ [])
     ∷ sizes noStep []
-    ∷ sizes (justSome 3) (114 ∷ 101 ∷ 102 ∷ 117 ∷ 115 ∷ 101 ∷ 100 ∷ 32 ∷ 55 ∷ 32 ∷ 49 ∷ 10 ∷ [])
+    ∷ sizes (justSome 255) (114 ∷ 101 ∷ 102 ∷ 117 ∷ 115 ∷ 101 ∷ 100 ∷ 32 ∷ 55 ∷ 32 ∷ 49 ∷ 10 ∷ [])
     ∷ []

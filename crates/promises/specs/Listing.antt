@@ -72,7 +72,7 @@ refusedLine n p = field refusedWord n ++ field blank p ++ lineEnd
 unfoldable pub planLines : ℕ → ℕ → ℕ → ℕ → List ℕ → ℕ → List ℕ
 planLines d n bound start plan many = firstLine d n bound ++ stepLines 1 start plan ++ totalLine many
 
--- ---- the listing
+-- ---- the listing of a plan
 
 -- refusals 1 to 7 and 9
 unfoldable pub listingRefusals : List ℕ → List Cause
@@ -83,7 +83,7 @@ unfoldable pub listed : List ℕ → Answer (List ℕ) → List ℕ
 listed s (Refused n p) = refusedLine n p
 listed s (Given plan) = planLines (unitsOf s) (length (stepsOf s)) (boundOf s) (startOf s) plan (total (startOf s) plan)
 
--- the listing of any bytes: one refusal, or the plan that FindSupport gives
+-- the listing of the plan of any bytes: one refusal, or the plan that FindSupport gives
 unfoldable pub listing : List ℕ → List ℕ
 listing s = listed s (unless (listingRefusals s) (Given (supportOn s)))
 
@@ -94,7 +94,7 @@ printed text out = (length text, written text out)
 abbrev pub listPlan : List ℕ → List ℕ → ℕ × List ℕ
 listPlan s out = printed (listing s) out
 
--- ---- the sizes of the steps
+-- ---- the listing of sizes
 
 -- "1 2 5": the step, and the least and the greatest size of a feasible set there; no line where there is none
 unfoldable pub sizesLine : ℕ → Sizes → List ℕ
@@ -111,7 +111,7 @@ unfoldable pub sizesListed : Answer (List Limits) → List ℕ
 sizesListed (Refused n p) = refusedLine n p
 sizesListed (Given ss) = sizesLines 1 ss
 
--- the sizes of any bytes: one refusal of 1 to 7, or those of all steps
+-- the listing of the sizes of any bytes: one refusal of 1 to 7, or those of all steps
 unfoldable pub sizesListing : List ℕ → List ℕ
 sizesListing s = sizesListed (unless (readCauses s) (Given (limitsOn s)))
 

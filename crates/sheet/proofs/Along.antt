@@ -1,11 +1,11 @@
 -- A loop along the chain: after i of n records it is at record `at`, and those after it lie within the sheet.
-use mathlib.Core.Path.{_≡_, subst}
-use mathlib.Core.List.{List}
+use mathlib.Core.Path.{_≡_, ap, subst}
+use mathlib.Core.List.{List, [], _∷_}
 use Prim.Native.Nat.{ℕ, suc, _+_, _-_, _≤_, _<_}
 use native.Mathlib.Omega.{arith}
 use lib.ListN.{length}
-use Rattle.format.specs.Chain.{Inside}
-use Rattle.format.specs.Format.{nextOf, recordOffset}
+use Rattle.format.specs.Chain.{Inside, stepsFrom}
+use Rattle.format.specs.Format.{nextOf, stepOf, recordOffset}
 
 pub record Along (s : List ℕ) (n at i : ℕ) : Type 0 where
   pub within : i ≤ n
@@ -23,3 +23,17 @@ module _ {s : List ℕ} {n at i : ℕ} (g : Along s n at i) (more : i < n) where
 
   pub along-on : Along s n (nextOf s at) (i + 1)
   along-on = record { within = omega arith; inside = inside-now .1 .1 }
+
+-- the steps that are left after i of n: the next one and those after it, or none
+module _ (s : List ℕ) (n at i : ℕ) where
+  pub steps-next : i < n → stepsFrom s at (n - i) ≡ stepOf s (nextOf s at) ∷ stepsFrom s (nextOf s at) (n - (i + 1))
+  unfolding stepsFrom
+  steps-next more =
+      let left : n - i ≡ suc (n - (i + 1)) = omega arith in
+      ap (stepsFrom s at) left
+
+  pub steps-none : n ≤ i → stepsFrom s at (n - i) ≡ []
+  unfolding stepsFrom
+  steps-none done =
+      let none : n - i ≡ 0 = omega arith in
+      ap (stepsFrom s at) none

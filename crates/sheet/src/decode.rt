@@ -1,17 +1,18 @@
 // The steps of a sheet that passes the reader, as words for the planner: four a step, its lower and upper set and the least and the greatest size of a
 // feasible set, which stand for its two numbers.
 use super::record::follow;
+use super::record::sizes_of;
 use super::record::step_at;
 use format::Step;
 use plans::Limits;
 use units::Sizes;
-use units::feasible_sizes;
 ghost use mathlib.Core.Path.{_≡_};
 ghost use mathlib.Core.List.{[], _∷_, map};
 ghost use Prim.Native.Nat.{_+_, _*_, _≤_};
 ghost use lib.ListN.{length};
 ghost use lib.Seq.{sets};
-ghost use Rattle.plans.specs.Rows.{rowSize, rowsOf, sized};
+ghost use Rattle.plans.specs.Rows.{rowSize, rowsOf};
+ghost use Rattle.plans.specs.Switch.{sized};
 ghost use Rattle.format.specs.Chain.{Inside, stepsFrom};
 ghost use Rattle.format.specs.Format.{limitsOf};
 
@@ -19,7 +20,7 @@ ghost use Rattle.format.specs.Format.{limitsOf};
 fn sized_step(x: Step) -> Limits
     ensures { λ r. ⌜ r ≡ sized (limitsOf x) ⌝ }
 {
-    match feasible_sizes(x.lower, x.upper, x.least, x.greatest) {
+    match sizes_of(x) {
         Sizes::Between(few, many) => Limits {
             lower: x.lower,
             upper: x.upper,

@@ -1,13 +1,15 @@
-// One record of the sheet: where it lies, the step that it holds, and the number of the record after it.
+// One record of the sheet: where it lies, the step that it holds with its sizes, and the number of the record after it.
 use super::Sheet;
 use super::numbers::u16_at;
 use super::numbers::u32_at;
 use super::numbers::u64_at;
 use format::Step;
+use units::Sizes;
 ghost use mathlib.Core.Path.{_≡_};
 ghost use Prim.Native.Nat.{_+_, _≤_, _<_, _^_};
 ghost use lib.ListN.{length};
-ghost use Rattle.format.specs.Format.{recordOffset, stepOf, nextOf};
+ghost use Rattle.plans.specs.Switch.{sizesOf};
+ghost use Rattle.format.specs.Format.{recordOffset, stepOf, limitsOf, nextOf};
 
 // Where record j lies.
 pub fn record_offset(j: usize) -> usize
@@ -30,6 +32,13 @@ pub fn step_at(s: &[u8], j: usize) -> Step
         greatest: s[at + Sheet::GREATEST_AT],
         tag: u32_at(s, at + Sheet::TAG_AT) as u32,
     }
+}
+
+// The least and the greatest size of a feasible set of a step, or that there is none.
+pub fn sizes_of(x: Step) -> Sizes
+    ensures { λ r. ⌜ r ≡ sizesOf (limitsOf x) ⌝ }
+{
+    units::feasible_sizes(x.lower, x.upper, x.least, x.greatest)
 }
 
 // The number of the record after record j, or of the first record where j is 0, for the header; 0 if there is none.

@@ -1,6 +1,7 @@
 // The search for the first faulty step: refusals 6 and 7, or what the sheet says.
 use super::ReadAnswer;
 use super::record::follow;
+use super::record::sizes_of;
 use super::record::step_at;
 use format::Refusal;
 use format::Step;
@@ -22,7 +23,7 @@ fn fault(x: Step, d: u32) -> u32
     if units::has_unit_from(x.upper, d) {
         return 6;
     }
-    match units::feasible_sizes(x.lower, x.upper, x.least, x.greatest) {
+    match sizes_of(x) {
         Sizes::Between(_, _) => 0,
         Sizes::NoSet => 7,
     }

@@ -3,12 +3,12 @@
 use mathlib.Core.Path.{_≡_, refl, sym, _∙_}
 use mathlib.Core.Logic.{_↔_}
 use mathlib.Core.Bool.{Bool, true, false, cond, _&&_, and-eq-true-iff, false≢true}
-use Prim.Native.Nat.{ℕ, zero, suc, _+_, _-_, _≤_, min, max}
+use Prim.Native.Nat.{ℕ, zero, suc, _+_, _-_, _≤_}
 use native.Mathlib.Omega.{arith}
 use lib.Dec.{leb}
 use borrow.Author.Tests.{leb-true, le-leb}
 use Rattle.units.specs.Sets.{Subset, isSubset, insert, size}
-use Rattle.units.specs.Limits.{Feasible, feasibleSizes, HasSize, hasSet, hasFeasible}
+use Rattle.units.specs.Limits.{Feasible, leastSize, greatestSize, feasibleSizes, HasSize, hasSet, hasFeasible}
 use Rattle.units.specs.declared.Sizes.{Sizes}
 use Rattle.units.specs.declared.Sizes.the-variants.{Between, NoSet}
 use Rattle.units.proofs.Sets.{insert-subset, size-insert, size-mono, subset-holds, subset-insert, subset-test, unit-outside}
@@ -25,54 +25,55 @@ between (suc j) lower upper h room =
     (rest .0, ((λ u. omega (arith, subset-insert lower v u, rest .1 .0 u)), (rest .1 .1 .0, omega (arith, rest .1 .1 .1))))
 
 module _ (lower upper least greatest : ℕ) where
-  abbrev few : ℕ
-  few = max least (size lower)
+  -- the two ends
+  abbrev low : ℕ
+  low = leastSize lower least
 
-  abbrev many : ℕ
-  many = min greatest (size upper)
+  abbrev high : ℕ
+  high = greatestSize upper greatest
 
   -- some feasible set has size k
   abbrev SomeOfSize : ℕ → Type 0
   SomeOfSize k = (x : ℕ) × (Feasible lower upper least greatest x × (size x ≡ k))
 
-  -- the size of a feasible set lies between the two
-  between-ends : (x : ℕ) → Feasible lower upper least greatest x → (few ≤ size x) × (size x ≤ many)
+  -- the size of a feasible set lies between the ends
+  between-ends : (x : ℕ) → Feasible lower upper least greatest x → (low ≤ size x) × (size x ≤ high)
   between-ends x f = (omega (arith, f .enough, size-mono lower x (f .includes)), omega (arith, f .few, size-mono x upper (f .within)))
 
-  -- and each size between the two is that of a feasible set
-  of-size : Subset lower upper → (k : ℕ) → few ≤ k → k ≤ many → SomeOfSize k
+  -- and each size between the ends is that of a feasible set
+  of-size : Subset lower upper → (k : ℕ) → low ≤ k → k ≤ high → SomeOfSize k
   of-size h k l m =
       let (x, (includes, (within, is))) = between (k - size lower) lower upper h (omega arith) in
       (x, (record { includes = includes; within = within; enough = omega (arith, is); few = omega (arith, is) }, omega (arith, is)))
 
   -- What holds of the two ends, where the lower set is within the upper one and the ends are in order, and of `NoSet`, where no set is feasible, holds of what
   -- the test gives.
-  pub either-way : (P : Sizes → Type 0) → (Subset lower upper → few ≤ many → P (Between few many))
+  pub either-way : (P : Sizes → Type 0) → (Subset lower upper → low ≤ high → P (Between low high))
       → (((x : ℕ) → Feasible lower upper least greatest x → ⊥) → P NoSet) → P (feasibleSizes lower upper least greatest)
   unfolding feasibleSizes
-  either-way P some none = go (isSubset lower upper && leb few many) refl
+  either-way P some none = go (isSubset lower upper && leb low high) refl
     where
-      passes : (x : ℕ) → Feasible lower upper least greatest x → (isSubset lower upper && leb few many) ≡ true
+      passes : (x : ℕ) → Feasible lower upper least greatest x → (isSubset lower upper && leb low high) ≡ true
       passes x f =
-          let (low, high) = between-ends x f in
-          simp (subset-test lower upper (λ u. omega (arith, f .includes u, f .within u)), le-leb few many (omega arith))
+          let (l, m) = between-ends x f in
+          simp (subset-test lower upper (λ u. omega (arith, f .includes u, f .within u)), le-leb low high (omega arith))
 
-      go : (t : Bool) → (isSubset lower upper && leb few many) ≡ t → P (cond t (Between few many) NoSet)
-      go true e = let p = and-eq-true-iff (isSubset lower upper) (leb few many) .0 e in some (subset-holds lower upper (p .0)) (leb-true few many (p .1))
+      go : (t : Bool) → (isSubset lower upper && leb low high) ≡ t → P (cond t (Between low high) NoSet)
+      go true e = let p = and-eq-true-iff (isSubset lower upper) (leb low high) .0 e in some (subset-holds lower upper (p .0)) (leb-true low high (p .1))
       go false e = none (λ x f. false≢true (sym e ∙ passes x f))
 
   -- a number is the size of some feasible set exactly if it is one of the sizes
   pub sizes-exact : (k : ℕ) → SomeOfSize k ↔ HasSize (feasibleSizes lower upper least greatest) k
   sizes-exact k =
       either-way (λ z. SomeOfSize k ↔ HasSize z k)
-      (λ h l. (λ (x, (f, is)). let (low, high) = between-ends x f in (omega arith, omega arith), λ (low, high). of-size h k low high))
+      (λ h o. (λ (x, (f, is)). let (l, m) = between-ends x f in (omega arith, omega arith), λ (l, m). of-size h k l m))
       (λ none. (λ (x, (f, is)). none x f, λ z. absurd z))
 
   -- the least is at the most the greatest, so that both are sizes of feasible sets
   pub sizes-ordered : (a b : ℕ) → feasibleSizes lower upper least greatest ≡ Between a b → a ≤ b
   sizes-ordered a b =
       either-way (λ z. z ≡ Between a b → a ≤ b)
-      (λ h l e. let low : few ≡ a = cc in let high : many ≡ b = cc in omega arith)
+      (λ h o e. let l : low ≡ a = cc in let m : high ≡ b = cc in omega arith)
       (λ none e. let never : _≡_ {A = ℕ} 0 1 = cc in absurd (omega arith))
 
   -- there is a feasible set exactly if there are sizes
@@ -80,9 +81,14 @@ module _ (lower upper least greatest : ℕ) where
   unfolding hasFeasible
   some-feasible =
       either-way (λ z. hasSet z ≡ true ↔ ((x : ℕ) × Feasible lower upper least greatest x))
-      (λ h l. (λ t. let (x, (f, is)) = of-size h few (omega arith) l in (x, f), λ w. refl))
+      (λ h o. (λ t. let (x, (f, is)) = of-size h low (omega arith) o in (x, f), λ w. refl))
       (λ none. (λ t. absurd (false≢true t), λ (x, f). absurd (none x f)))
+
+  pub some-sizes : hasFeasible lower upper least greatest ≡ true → (a : ℕ) × ((b : ℕ) × (feasibleSizes lower upper least greatest ≡ Between a b))
+  unfolding hasFeasible
+  some-sizes =
+      either-way (λ z. hasSet z ≡ true → (a : ℕ) × ((b : ℕ) × (z ≡ Between a b))) (λ h o t. (low, (high, refl))) (λ none t. absurd (false≢true t))
 
   -- limits that pass four tests allow some set
   pub fits : Subset lower upper → least ≤ greatest → size lower ≤ greatest → least ≤ size upper → hasFeasible lower upper least greatest ≡ true
-  fits h p q r = let (x, (f, is)) = of-size h few (omega arith) (omega (arith, size-mono lower upper h)) in some-feasible .1 (x, f)
+  fits h p q r = let (x, (f, is)) = of-size h low (omega arith) (omega (arith, size-mono lower upper h)) in some-feasible .1 (x, f)

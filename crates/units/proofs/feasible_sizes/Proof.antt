@@ -4,8 +4,7 @@ use Prim.Native.Nat.{_≤_, _<_, min, max}
 use native.Mathlib.Omega.{arith}
 use borrow.Author.Needs.{needs}
 use borrow.Author.Tests.{le-leb, lt-leb, not-true, not-false}
-use Rattle.units.specs.Limits.{feasibleSizes}
-use Rattle.units.specs.Sets.{size}
+use Rattle.units.specs.Limits.{leastSize, greatestSize, feasibleSizes}
 use Rattle.units.specs.declared.Sizes.the-variants.{Between}
 use Rattle.units.proofs.feasible_sizes.Statement.{statement}
 use Rattle.units.proofs.feasible_sizes.Tie as tie
@@ -31,24 +30,24 @@ lesser-requires c κs = search needs
 
 -- the two ends are those of the definition
 module _ (c : tie.After-lesser) where
-  few : let a = c .before .before .before .before .before .before .args in c .before .before .greater .result ≡ max (a .least) (size (a .lower))
+  few : let a = c .before .before .before .before .before .before .args in c .before .before .greater .result ≡ leastSize (a .lower) (a .least)
   few = c .before .before .greater .ensures ∙ ap (max _) (c .before .before .before .size .ensures)
 
-  many : let a = c .before .before .before .before .before .before .args in c .lesser .result ≡ min (a .greatest) (size (a .upper))
+  many : let a = c .before .before .before .before .before .before .args in c .lesser .result ≡ greatestSize (a .upper) (a .greatest)
   many = c .lesser .ensures ∙ ap (min _) (c .before .size2 .ensures)
 
 returns-2 : tie.Need-returns-2
 unfolding feasibleSizes
 returns-2 c =
     let a = c .before .before .before .before .before .before .before .args in
-    let over : min (a .greatest) (size (a .upper)) < max (a .least) (size (a .lower)) = omega (arith, few (c .before), many (c .before)) in
+    let over : greatestSize (a .upper) (a .greatest) < leastSize (a .lower) (a .least) = omega (arith, few (c .before), many (c .before)) in
     simp (sym (c .before .before .before .before .before .before .is-subset .ensures) ∙ not-false _ (c .before .before .before .before .before .if1 .left), lt-leb _ _ over)
 
 returns-3 : tie.Need-returns-3
 unfolding feasibleSizes
 returns-3 c =
     let a = c .before .before .before .before .before .before .before .args in
-    let fits : max (a .least) (size (a .lower)) ≤ min (a .greatest) (size (a .upper)) = omega (arith, few (c .before), many (c .before)) in
+    let fits : leastSize (a .lower) (a .least) ≤ greatestSize (a .upper) (a .greatest) = omega (arith, few (c .before), many (c .before)) in
     simp (sym (c .before .before .before .before .before .before .is-subset .ensures) ∙ not-false _ (c .before .before .before .before .before .if1 .left), le-leb _ _ fits) (ap₂ Between (few (c .before)) (many (c .before)))
 
 pub feasible-sizes-spec : {M : Type 1} → statement M

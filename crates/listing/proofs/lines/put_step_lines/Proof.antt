@@ -1,5 +1,5 @@
 -- `listing::lines::put_step_lines` meets its contract: `Stepping` has the laws of its loop.
-use mathlib.Core.Path.{_≡_, sym, ap, _∙_}
+use mathlib.Core.Path.{_≡_, ap, _∙_}
 use Prim.Native.Nat.{_+_, _-_, _≤_, _<_}
 use native.Mathlib.Omega.{arith}
 use lib.ListN.{length}

@@ -1,11 +1,11 @@
 -- `listing::sizes::put_sizes_line` meets its contract.
-use mathlib.Core.Path.{sym, ap, subst}
+use mathlib.Core.Path.{subst}
 use native.Mathlib.Omega.{arith}
 use borrow.Author.Needs.{needs}
 use Rattle.promises.specs.Listing.{sizesLine}
 use Rattle.listing.specs.Room.{TwoDigits}
 use Rattle.listing.proofs.Numerals.{decimal-width}
-use Rattle.writer.proofs.Places.{placed-then, placed-none, placed-as, placed-length}
+use Rattle.writer.proofs.Places.{placed-then, placed-none, placed-length}
 use Rattle.listing.proofs.sizes.put_sizes_line.Statement.{statement}
 use Rattle.listing.proofs.sizes.put_sizes_line.Tie as tie
 

@@ -1,6 +1,6 @@
 -- `listing::sizes::put_sizes_lines` meets its contract: the walk is along the chain, and the lines so far, with those still to come, are all.
 use mathlib.Core.Path.{_≡_, sym, ap, subst, _∙_}
-use Prim.Native.Nat.{_+_, _-_, _≤_}
+use Prim.Native.Nat.{_+_, _-_}
 use native.Mathlib.Omega.{arith}
 use denote.Ref.{now}
 use borrow.Author.Needs.{needs}
@@ -31,15 +31,15 @@ follow-requires c κs = inside-now (c .before .loop .inv .0) (c .loop-test .take
 step-at-requires : tie.Need-step-at-requires Inv-loop μ-loop
 step-at-requires c κs = omega (arith, inside-now (c .before .before .loop .inv .0) (c .before .loop-test .taken) .1 .0, c .follow .ensures .0)
 
-feasible-sizes-requires : tie.Need-feasible-sizes-requires Inv-loop μ-loop
-feasible-sizes-requires c κs = search needs
+sizes-of-requires : tie.Need-sizes-of-requires Inv-loop μ-loop
+sizes-of-requires c κs = search needs
 
 add-i : tie.Need-add-i Inv-loop μ-loop
 add-i c = search needs
 
 -- the sizes have two digits
-two : (c : tie.After-feasible-sizes Inv-loop μ-loop) → TwoDigits (c .feasible-sizes .result)
-two c = subst TwoDigits (sym (c .feasible-sizes .ensures)) (two-digits (limitsOf (c .before .step-at .result)) (search needs))
+two : (c : tie.After-sizes-of Inv-loop μ-loop) → TwoDigits (c .sizes-of .result)
+two c = subst TwoDigits (sym (c .sizes-of .ensures)) (two-digits (limitsOf (c .before .step-at .result)) (search needs))
 
 put-sizes-line-requires : tie.Need-put-sizes-line-requires Inv-loop μ-loop
 put-sizes-line-requires c κs =
@@ -57,8 +57,8 @@ loop-again c =
     let n = c .before .before .before .before .before .before .before .before .before .before .before .args .n in
     let more = c .before .before .before .before .before .before .before .loop-test .taken in
     let at = c .before .before .before .before .before .before .follow .ensures .0 in
-    let sizes : c .before .before .before .before .feasible-sizes .result ≡ sizesOf (limitsOf (stepOf s (nextOf s (l .at)))) =
-    c .before .before .before .before .feasible-sizes .ensures ∙ ap (λ (x : Step). sizesOf (limitsOf x)) (c .before .before .before .before .before .step-at .ensures ∙ ap (stepOf s) at) in
+    let sizes : c .before .before .before .before .sizes-of .result ≡ sizesOf (limitsOf (stepOf s (nextOf s (l .at)))) =
+    c .before .before .before .before .sizes-of .ensures ∙ ap (λ (x : Step). sizesOf (limitsOf x)) (c .before .before .before .before .before .step-at .ensures ∙ ap (stepOf s) at) in
     let short = sizes-width (l .i + 1) _ (omega (arith, c .before .before .before .before .before .before .before .before .before .before .before .pre .1 .0)) (subst TwoDigits sizes (two (c .before .before .before .before))) in
     rw at (along-on (l .inv .0) more, line-put (l .inv .1) (next-sizes s n (l .at) (l .i) more) short (omega arith) (placed-as (ap (sizesLine (l .i + 1)) sizes) (c .before .before .put-sizes-line .ensures)))
 
@@ -77,7 +77,7 @@ put-sizes-lines-spec =
     loop-holds
     follow-requires
     step-at-requires
-    feasible-sizes-requires
+    sizes-of-requires
     add-i
     put-sizes-line-requires
     loop-less

@@ -7,7 +7,8 @@ use borrow.Author.Needs.{needs}
 use denote.Ref.{now}
 use lib.Seq.{sets}
 use Rattle.plans.specs.declared.Limits.{Limits}
-use Rattle.plans.specs.Rows.{rowsOf, sized}
+use Rattle.plans.specs.Rows.{rowsOf}
+use Rattle.plans.specs.Switch.{sized}
 use Rattle.format.specs.declared.Step.{Step}
 use Rattle.format.specs.Format.{limitsOf}
 use Rattle.sheet.proofs.Along.{Along, along-begun, inside-now, along-on}
@@ -57,7 +58,7 @@ same-length : tie.Need-same-length Inv-loop μ-loop
 same-length c = c .before .loop .inv .1 .same-long
 
 returns : tie.Need-returns Inv-loop μ-loop
-returns c = fill-done (c .before .loop .inv .1) (omega (arith, c .before .loop .inv .0 .within))
+returns c = fill-done (c .before .loop .inv .1) (c .loop-test .left)
 
 pub decode-spec : {M : Type 1} → statement M
 decode-spec =

@@ -1,13 +1,13 @@
 -- `sheet::decode::sized_step` meets its contract.
 use mathlib.Core.Path.{sym, ap, _∙_}
 use borrow.Author.Needs.{needs}
-use Rattle.plans.specs.Rows.{sizedBy, sized}
+use Rattle.plans.specs.Switch.{sizedBy, sized}
 use Rattle.format.specs.Format.{limitsOf}
 use Rattle.sheet.proofs.decode.sized_step.Statement.{statement}
 use Rattle.sheet.proofs.decode.sized_step.Tie as tie
 
-feasible-sizes-requires : tie.Need-feasible-sizes-requires
-feasible-sizes-requires c κs = search needs
+sizes-of-requires : tie.Need-sizes-of-requires
+sizes-of-requires c κs = search needs
 
 enum-known-few : tie.Need-enum-known-few
 enum-known-few c = search needs
@@ -29,17 +29,17 @@ cast-t9 c = search needs
 
 returns : tie.Need-returns
 unfolding sized
-returns c = ap (sizedBy (limitsOf (c .before .before .before .before .args .x))) (sym (c .before .few .given .1) ∙ c .before .before .before .feasible-sizes .ensures)
+returns c = ap (sizedBy (limitsOf (c .before .before .before .before .args .x))) (sym (c .before .few .given .1) ∙ c .before .before .before .sizes-of .ensures)
 
 returns-2 : tie.Need-returns-2
 unfolding sized
-returns-2 c = ap (sizedBy (limitsOf (c .before .before .before .before .before .args .x))) (sym (c .before .before .enum-told .given .1) ∙ c .before .before .before .before .feasible-sizes .ensures)
+returns-2 c = ap (sizedBy (limitsOf (c .before .before .before .before .before .args .x))) (sym (c .before .before .enum-told .given .1) ∙ c .before .before .before .before .sizes-of .ensures)
 
 pub sized-step-spec : {M : Type 1} → statement M
 sized-step-spec =
     tie.close
     (tie.spec
-    feasible-sizes-requires
+    sizes-of-requires
     enum-known-few
     cast-t6
     cast-t7

@@ -15,8 +15,8 @@ returns : tie.Need-returns
 unfolding faultOf
 returns c = simp (sym (c .before .has-unit-from .ensures) ∙ c .if1 .taken)
 
-feasible-sizes-requires : tie.Need-feasible-sizes-requires
-feasible-sizes-requires c κs = search needs
+sizes-of-requires : tie.Need-sizes-of-requires
+sizes-of-requires c κs = search needs
 
 enum-told : tie.Need-enum-told
 enum-told c = search needs
@@ -27,12 +27,12 @@ enum-told-2 c = search needs
 returns-2 : tie.Need-returns-2
 unfolding faultOf hasFeasible
 returns-2 c =
-    simp (sym (c .before .before .before .before .has-unit-from .ensures) ∙ c .before .before .before .if1 .left, ap (λ (z : Sizes). not (hasSet z)) (sym (c .before .before .feasible-sizes .ensures) ∙ c .enum-told .given .1))
+    simp (sym (c .before .before .before .before .has-unit-from .ensures) ∙ c .before .before .before .if1 .left, ap (λ (z : Sizes). not (hasSet z)) (sym (c .before .before .sizes-of .ensures) ∙ c .enum-told .given .1))
 
 returns-3 : tie.Need-returns-3
 unfolding faultOf hasFeasible
 returns-3 c =
-    simp (sym (c .before .before .before .before .has-unit-from .ensures) ∙ c .before .before .before .if1 .left, ap (λ (z : Sizes). not (hasSet z)) (sym (c .before .before .feasible-sizes .ensures) ∙ c .enum-told2 .given .1))
+    simp (sym (c .before .before .before .before .has-unit-from .ensures) ∙ c .before .before .before .if1 .left, ap (λ (z : Sizes). not (hasSet z)) (sym (c .before .before .sizes-of .ensures) ∙ c .enum-told2 .given .1))
 
 pub fault-spec : {M : Type 1} → statement M
 fault-spec =
@@ -40,7 +40,7 @@ fault-spec =
     (tie.spec
     has-unit-from-requires
     returns
-    feasible-sizes-requires
+    sizes-of-requires
     enum-told
     enum-told-2
     returns-2
