@@ -15,5 +15,5 @@ pub readings-hold : All faults × (All pairsOfFaults × All campaigns)
 unfolding feasibleSizes hasFeasible intersection isSubset size hasUnitFrom unless following chainOf isIn linkCauses bytesOf headerBytes recordBytes linkIn recordsAfter sheetOf stepOf nextOf byteAt u16At u32At u64At same stepsCauses readCauses campaignOf ones onesIn faults pairsOfFaults campaigns
 readings-hold = (
   (refl, (refl, (refl, (refl, (refl, (refl, (refl, (refl, (refl, (refl, (refl, (refl, (refl, (refl, (refl, (refl, tt)))))))))))))))),
-  ((refl, (refl, (refl, (refl, (refl, (refl, (refl, (refl, (refl, (refl, (refl, (refl, tt)))))))))))), (refl, (refl, tt))),
+  ((refl, (refl, (refl, (refl, (refl, (refl, (refl, (refl, (refl, (refl, (refl, (refl, tt)))))))))))), (refl, (refl, (refl, (refl, tt))))),
 )

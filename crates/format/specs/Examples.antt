@@ -103,9 +103,11 @@ pairsOfFaults =
     ∷ row (pair infeasible foreign) (Refused 7 1)
     ∷ []
 
--- sheets without a fault
+-- sheets without a fault; the last two have the most units, and the most records
 unfoldable pub campaigns : List Example
 campaigns =
     row noStep (Given (record { units = 1; bound = 0; start = 0; steps = [] }))
     ∷ row tagsAndUnused (Given (record { units = 3; bound = 515; start = 5; steps = tagged 2 3 1 2 4294967295 ∷ tagged 1 7 0 2 67305985 ∷ [] }))
+    ∷ row (set noStep 5 64) (Given (record { units = 64; bound = 0; start = 0; steps = [] }))
+    ∷ row (headerBytes 1 256 0 0 0 ++ replicate 6144 0) (Given (record { units = 1; bound = 0; start = 0; steps = [] }))
     ∷ []

@@ -203,7 +203,7 @@ the-sizes x k = sizes-exact (x .lower) (x .upper) (x .least) (x .greatest) k
 pub the-sizes-in-order : (x : Step) (few many : ℕ) → sizesOf (limitsOf x) ≡ Between few many → few ≤ many
 the-sizes-in-order x few many = sizes-ordered (x .lower) (x .upper) (x .least) (x .greatest) few many
 
--- each step of a sheet that passes the checks has sizes, and so a line
+-- each step of a sheet that passes the checks has sizes, and so a line; steps count from 0 here
 pub each-step-has-sizes : (s : List ℕ) → Passes s → (i : ℕ) → i < length (stepsOf s)
     → (few : ℕ) × ((many : ℕ) × (sizesOf (stepAt (limitsOn s) i) ≡ Between few many))
 each-step-has-sizes s ok i l =
