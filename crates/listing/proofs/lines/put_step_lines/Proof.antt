@@ -1,13 +1,13 @@
 -- `listing::lines::put_step_lines` meets its contract: `Stepping` has the laws of its loop.
-use mathlib.Core.Path.{_≡_, ap, _∙_}
+use mathlib.Core.Path.{_≡_, sym, ap, _∙_}
 use Prim.Native.Nat.{_+_, _-_, _≤_, _<_}
 use native.Mathlib.Omega.{arith}
-use lib.ListN.{length}
+use denote.Ref.{now}
+use lib.ListN.{length, getD}
 use Rattle.units.specs.Sets.{difference, size}
 use Rattle.plans.specs.Switch.{switches}
 use Rattle.units.proofs.Sets.{size-below}
 use Rattle.promises.specs.Listing.{stepLine}
-use Rattle.writer.specs.Placed.{Placed}
 use Rattle.writer.proofs.Places.{placed-length}
 use Rattle.listing.proofs.Putting.{none-put, line-put, all-put}
 use Rattle.listing.proofs.Stepping.{Stepping, line-width, next-line, no-line}
@@ -67,8 +67,10 @@ loop-again c =
     let p = c .before .before .before .before .before .before .before .before .before .before .before .pre in
     let many : c .before .before .before .before .size .result ≡ size (difference _ (l .before)) =
     c .before .before .before .before .size .ensures ∙ ap size (c .before .before .before .before .before .difference .ensures) in
-    let put : Placed (stepLine (l .i + 1) _ (size (difference _ (l .before)))) _ _ _ _ = rw many at (c .before .before .put-step-line .ensures) in
-    (omega arith, line-put (l .inv .1) (next-line _ (l .i) (l .before) h) (line-width (l .i + 1) _ _ (omega arith) (rw many at (few (c .before .before .before .before)))) (omega arith) put)
+    let x = getD (now (c .before .before .before .before .before .before .before .before .before .before .before .args .plan)) (l .i) 0 in
+    let line = stepLine (l .i + 1) x (size (difference x (l .before))) in
+    let short = line-width (l .i + 1) x _ (omega arith) (rw many at (few (c .before .before .before .before))) in
+    (omega arith, line-put (l .inv .1) {line = line} (next-line _ (l .i) (l .before) h) short (omega arith) (rw (sym many) (c .before .before .put-step-line .ensures)))
 
 same-length : tie.Need-same-length Inv-loop μ-loop
 same-length c = placed-length (c .before .loop .inv .1 .placed)
