@@ -1,4 +1,4 @@
--- What several entries share: the steps of a sheet as plans are about them, refusal 8, replies, and what an output holds.
+-- What several entries share: the steps of a sheet without their tags, refusal 8, replies, and what an output holds.
 use Prim.Native.Nat.{ℕ}
 use mathlib.Core.List.{List, [], _∷_, _++_, map}
 use lib.Dec.{ltb}

@@ -1,5 +1,5 @@
 -- What each entry replies and leaves in the lent memory: `Common` has what they share, then a file for each, `Steps`, `Plan`, `Chart`, `Verdict`,
--- `Write` and `Listing`, with numbers as `Digits`. `Statements` has how the demands are stated, and `Examples` the worked examples.
+-- `Write`, and `Listing` for the texts of both listings, with numbers as `Digits`. `Statements` has how the demands are stated, and `Examples` the worked examples.
 pub mod Chart
 pub mod Common
 pub mod Digits

@@ -14,7 +14,7 @@ pub record Feasible (lower upper least greatest x : ℕ) : Type 0 where
   pub enough : least ≤ size x
   pub few : size x ≤ greatest
 
--- no set that the limits allow is smaller, and none is larger
+-- no set that the limits allow has a size below the first, or above the second
 abbrev pub leastSize : ℕ → ℕ → ℕ
 leastSize lower least = max least (size lower)
 
