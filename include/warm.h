@@ -23,7 +23,8 @@
  *
  * A plan has one word for each step: the set of units that are on. It is feasible if the set of every step is. Its warm-ups in a step are the units
  * that are on there and off in the step before; for the first step the start set is the step before. Its total is the sum over all steps. The
- * fewest warm-ups are the least total of any feasible plan.
+ * fewest warm-ups are the least total of any feasible plan. Some papers leave out the loading of the first step: with all d units in the start set
+ * the fewest warm-ups are what they count, the least that any feasible plan has from its second step on, or 0 if there is no step.
  *
  * A reply whose field `refusal` is 0 is a full reply. Otherwise `refusal` is a number of this table, `place` says where or how many, every other
  * field is 0, and every buffer that was lent is exactly as it came.

@@ -19,6 +19,18 @@
 //! greatest number. Its *warm-ups* in a step are the units that are on there and were off in the step before; before the first step, the
 //! start set is on. Its *total* is the sum over all steps. A plan *meets the sheet* if it is feasible and its total is at most the bound.
 //!
+//! Some papers leave out the loading of the first step. With all units in the start set, the total of [`plan`] and [`chart`], or the number
+//! at which they are refused for their bound, is what those papers count: the least that any feasible plan has from its second step on. In
+//! the example below it is 1:
+//!
+//! ```
+//! # let steps = [0b001, 0b010, 0b100, 0b001].map(|lower| warm::Step::new(lower, 0b111, 0, 2, 0));
+//! # let (mut bytes, mut sets) = ([0; warm::BYTES], [0; warm::STEPS]);
+//! let sheet = warm::write(3, 3, 0b111, &steps, &mut bytes)?;
+//! assert_eq!(warm::plan(sheet, &mut sets)?.total, 1);
+//! # Ok::<(), warm::Error>(())
+//! ```
+//!
 //! In a step that has a feasible set, the least size of one is the greater of the least number and the size of the lower set, the greatest
 //! size is the lesser of the greatest number and the size of the upper set, and every number between is the size of one too. The
 //! repository's program `list_sizes` prints the two, how few and how many units may be on, for each step of a sheet.

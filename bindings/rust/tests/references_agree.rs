@@ -9,7 +9,7 @@ use common::sheets::{draw, Family};
 use common::tally::Tally;
 use reference::exact::Exact;
 use reference::support::find_support;
-use reference::{feasible, has, total, warm_ups, Sheet};
+use reference::{all_plans, feasible, has, total, Sheet};
 
 fn draw_sheet(family: Family, units: usize, steps: usize, random: &mut Random) -> Sheet {
     let campaign = draw(family, units, steps, random);
@@ -108,14 +108,16 @@ fn find_support_and_fewest() {
 
 /// All plans of tiny sheets, one by one.
 #[test]
-fn all_plans() {
+fn all_sets_and_all_plans() {
     let mut random = Random::new(3);
     let mut tally = Tally::default();
     for _ in 0..150 {
         for family in Family::ALL {
             let (units, steps) = (random.between(1, 3), random.below(5));
             let sheet = draw_sheet(family, units, steps, &mut random);
-            let (all_sets, plans) = (Exact::all_sets(&sheet), plans(&sheet, 0, sheet.start));
+            let with_total = |plan: Vec<u64>| (total(sheet.start, &plan), plan);
+            let plans: Vec<_> = all_plans(sheet.units, &sheet.steps).into_iter().map(with_total).collect();
+            let all_sets = Exact::all_sets(&sheet);
             assert_eq!(plans.iter().map(|plan| plan.0).min(), Some(all_sets.fewest()), "{sheet:?}");
             tally.add("fewest", 1);
             for (i, u, on) in cells(&sheet) {
@@ -125,20 +127,6 @@ fn all_plans() {
             }
         }
     }
-    tally.print("all plans");
+    tally.print("all sets and all plans");
     tally.require(&[("fewest", 1000), ("cells", 5000)]);
-}
-
-/// The feasible plans of the steps from `i` on, with their totals.
-fn plans(sheet: &Sheet, i: usize, before: u64) -> Vec<(u32, Vec<u64>)> {
-    if i == sheet.steps.len() {
-        return vec![(0, vec![])];
-    }
-    let mut found = Vec::new();
-    for set in (0..1 << sheet.units).filter(|&set| feasible(&sheet.steps[i], set)) {
-        for (total, rest) in plans(sheet, i + 1, set) {
-            found.push((total + warm_ups(before, set), [&[set], &rest[..]].concat()));
-        }
-    }
-    found
 }

@@ -1,21 +1,23 @@
--- Sheets that agree are read the same but for tags. The walk visits the same records of both, one after the other (`same-links`): where the last link
--- leads out of the sheet or back, both get the same refusal, and else their steps differ in tags alone.
+-- Sheets that agree are read the same but for tags (`same-read`). The walk visits the same records of both, one after the other (`same-links`): where the last
+-- link leads out of the sheet or back, both get the same refusal, and else their steps differ in tags alone. The start set plays a part in one cause only: where
+-- it gives the same there, sheets that agree up to it are read the same but for tags and the start set (`same-said`).
 use mathlib.Core.Path.{_≡_, refl, sym, ap, ap₂, _∙_}
 use mathlib.Core.List.{List, [], _∷_, _++_, map}
-use Prim.Native.Nat.{ℕ, zero, suc, _+_, _<_, min}
+use Prim.Native.Nat.{ℕ, zero, suc, _+_, _≤_, _<_, min}
 use native.Mathlib.Nat.{add-zero, zero-add}
 use native.Mathlib.Decide.{ℕ-discrete}
 use native.Mathlib.Omega.{arith}
 use lib.ListN.{length-take, take}
 use lib.Seq.{ext-getD, getD-take}
 use borrow.Author.Tests.{ltb-false}
+use Rattle.units.specs.Sets.{hasUnitFrom}
 use Rattle.format.specs.declared.Step.{Step}
-use Rattle.format.specs.Agreement.{Visited, begun, onward, Agree, untagged, withoutTags, readUntagged}
+use Rattle.format.specs.Agreement.{Visited, begun, onward, AgreeTo, Agree, untagged, readUntagged}
 use Rattle.format.specs.Answer.{Answer, Given, unless}
 use Rattle.format.specs.Chain.{following, chainOf, linkCauses}
-use Rattle.format.specs.Format.{headerSize, editionAt, unitsAt, recordsAt, firstAt, boundAt, reservedAt, startAt, upperAt, leastAt, greatestAt, nextAt, tagAt, recordOffset, lettersOf, unitsOf, recordsOf, boundOf, startOf, nextOf, stepOf}
+use Rattle.format.specs.Format.{editionAt, unitsAt, recordsAt, firstAt, boundAt, reservedAt, startAt, upperAt, leastAt, greatestAt, nextAt, tagAt, recordOffset, lettersOf, unitsOf, recordsOf, boundOf, startOf, nextOf, stepOf}
 use Rattle.format.specs.Numbers.{byteAt, u64At}
-use Rattle.format.specs.Reading.{formCauses, headerCauses, stepCauses, stepsCauses, recordsOn, stepsOf, openCauses, Campaign, campaignOf}
+use Rattle.format.specs.Reading.{formCauses, headerCauses, stepCauses, stepsCauses, recordsOn, stepsOf, openCauses, readCauses, Campaign, campaignOf}
 use Rattle.format.proofs.Answers.{past-first}
 use Rattle.format.proofs.Chains.{follow-ends, follow-on}
 use Rattle.format.proofs.Numbers.{same-u16, same-u32, same-u64}
@@ -42,8 +44,21 @@ untagged-causes d i (x ∷ xs) = ap (λ cs. stepCauses d i x ++ cs) (untagged-ca
 
 -- ---- agreement
 
-module _ (s t : List ℕ) (g : Agree s t) where
-  heads : (i : ℕ) → i < headerSize → byteAt s (0 + i) ≡ byteAt t (0 + i)
+-- each sheet agrees with itself
+pub agree-itself : (k : ℕ) (s : List ℕ) → AgreeTo k s s
+agree-itself k s = record { lengths = refl; headers = λ i h. refl; records = λ j h v i l. refl }
+
+-- a sheet's campaign without tags, with `start` in the place of its start set
+abbrev pub campaignFrom : ℕ → List ℕ → Campaign
+campaignFrom start s = record { units = unitsOf s; bound = boundOf s; start = start; steps = map untagged (stepsOf s) }
+
+-- one refusal of 1 to 7, or that campaign
+abbrev pub saidFrom : ℕ → List ℕ → Answer Campaign
+saidFrom start s = unless (readCauses s) (Given (campaignFrom start s))
+
+-- agreement up to the start set at least
+module _ {k : ℕ} (enough : startAt ≤ k) (s t : List ℕ) (g : AgreeTo k s t) where
+  heads : (i : ℕ) → i < k → byteAt s (0 + i) ≡ byteAt t (0 + i)
   heads i h = ap (byteAt s) (zero-add i) ∙ g .headers i h ∙ ap (byteAt t) (sym (zero-add i))
 
   same-letters : lettersOf s ≡ lettersOf t
@@ -56,24 +71,22 @@ module _ (s t : List ℕ) (g : Agree s t) where
   same-units = g .headers unitsAt (omega arith)
 
   same-records : recordsOf s ≡ recordsOf t
-  same-records = same-u16 s t 0 0 headerSize heads recordsAt (omega arith)
+  same-records = same-u16 s t 0 0 k heads recordsAt (omega arith)
 
   same-bound : boundOf s ≡ boundOf t
-  same-bound = same-u16 s t 0 0 headerSize heads boundAt (omega arith)
+  same-bound = same-u16 s t 0 0 k heads boundAt (omega arith)
 
-  same-start : startOf s ≡ startOf t
-  same-start = same-u64 s t 0 0 headerSize heads startAt (omega arith)
-
-  same-form : formCauses s ++ headerCauses s ≡ formCauses t ++ headerCauses t
-  same-form =
-      rw (g .lengths, same-letters, g .headers editionAt (omega arith), same-units, same-records, same-u32 s t 0 0 headerSize heads reservedAt (omega arith), same-start)
+  -- where both start sets have a unit from d up, or neither has
+  same-form : hasUnitFrom (startOf s) (unitsOf s) ≡ hasUnitFrom (startOf t) (unitsOf t) → formCauses s ++ headerCauses s ≡ formCauses t ++ headerCauses t
+  same-form own =
+      rw (own, g .lengths, same-letters, g .headers editionAt (omega arith), same-units, same-records, same-u32 s t 0 0 k heads reservedAt (omega arith))
 
   -- a record that the walk visits names the same next one in both
   same-next : {j : ℕ} → Visited s j → nextOf s j ≡ nextOf t j
   same-next {j} v = go (ℕ-discrete j 0)
     where
       go : Dec (j ≡ 0) → nextOf s j ≡ nextOf t j
-      go (yes e) = next-first s j e ∙ same-u16 s t 0 0 headerSize heads firstAt (omega arith) ∙ sym (next-first t j e)
+      go (yes e) = next-first s j e ∙ same-u16 s t 0 0 k heads firstAt (omega arith) ∙ sym (next-first t j e)
       go (no n) = next-after s j n ∙ same-u16 s t (recordOffset j) (recordOffset j) tagAt (g .records j (omega arith) v) nextAt (omega arith) ∙ sym (next-after t j n)
 
   -- the steps of some records are the same but for tags
@@ -114,28 +127,35 @@ module _ (s t : List ℕ) (g : Agree s t) where
           ∙ ap (λ (m : ℕ). judged ofT (m ∷ following k t m)) (same-next v)
           ∙ sym (ap (judged ofT) (follow-on k t holder (λ e. n (same-next v ∙ e))))
 
-  -- so the one gets the refusal that the other gets, or says the same but for tags
-  pub same-read : readUntagged s ≡ readUntagged t
-  unfolding campaignOf chainOf
-  same-read =
+  -- so the one gets the refusal that the other gets, or says the same but for tags and the start set
+  pub same-said : hasUnitFrom (startOf s) (unitsOf s) ≡ hasUnitFrom (startOf t) (unitsOf t) → (start : ℕ) → saidFrom start s ≡ saidFrom start t
+  unfolding chainOf
+  same-said own start =
       staged s
-      ∙ ap₂ unless same-form
-      (same-links (recordsOf s) (suc (recordsOf s)) [] 0 (along s) (along t) refl begun (λ js e i. said (same-units i) (same-bound i) (same-start i) (e i))
+      ∙ ap₂ unless (same-form own)
+      (same-links (recordsOf s) (suc (recordsOf s)) [] 0 (along s) (along t) refl begun (λ js e i. said (same-units i) (same-bound i) (e i))
       ∙ ap (λ (r : ℕ). linked r t) same-records)
       ∙ sym (staged t)
     where
-      -- by the units, the bound, the start set and the steps without tags, if the chain has no fault
-      said : ℕ → ℕ → ℕ → List Step → Answer Campaign
-      said d bound start xs = unless (stepsCauses d 1 xs) (Given (record { units = d; bound = bound; start = start; steps = xs }))
+      -- by the units, the bound and the steps without tags, if the chain has no fault
+      said : ℕ → ℕ → List Step → Answer Campaign
+      said d bound xs = unless (stepsCauses d 1 xs) (Given (record { units = d; bound = bound; start = start; steps = xs }))
 
       along : List ℕ → List ℕ → Answer Campaign
-      along s js = said (unitsOf s) (boundOf s) (startOf s) (map untagged (map (stepOf s) js))
+      along s js = said (unitsOf s) (boundOf s) (map untagged (map (stepOf s) js))
 
       linked : ℕ → List ℕ → Answer Campaign
       linked r s = unless (linkCauses r [] 0 (following (suc r) s 0)) (along s (following (suc r) s 0))
 
-      staged : (s : List ℕ) → readUntagged s ≡ unless (formCauses s ++ headerCauses s) (linked (recordsOf s) s)
+      staged : (s : List ℕ) → saidFrom start s ≡ unless (formCauses s ++ headerCauses s) (linked (recordsOf s) s)
       staged s =
-          read-staged s (Given (withoutTags (campaignOf s)))
-          ∙ ap (λ cs. unless (openCauses s) (unless cs (Given (withoutTags (campaignOf s))))) (sym (untagged-causes (unitsOf s) 1 (stepsOf s)))
+          read-staged s (Given (campaignFrom start s))
+          ∙ ap (λ cs. unless (openCauses s) (unless cs (Given (campaignFrom start s)))) (sym (untagged-causes (unitsOf s) 1 (stepsOf s)))
           ∙ open-staged s (along s (recordsOn s))
+
+-- and where the start sets are the same, it says the same but for tags
+pub same-read : (s t : List ℕ) → Agree s t → readUntagged s ≡ readUntagged t
+unfolding campaignOf
+same-read s t g =
+    let start = same-u64 s t 0 0 _ (heads (omega arith) s t g) startAt (omega arith) in
+    same-said (omega arith) s t g (ap₂ hasUnitFrom start (same-units (omega arith) s t g)) (startOf s) ∙ ap (λ (x : ℕ). saidFrom x t) start

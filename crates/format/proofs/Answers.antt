@@ -86,6 +86,10 @@ all-passed (c ∷ cs) a e b = let p = passed-first c cs _ e in sym (passed-by c 
 pub unless-given : {A : Type 0} (cs : List Cause) (a : Answer A) {w : A} → unless cs a ≡ Given w → a ≡ Given w
 unless-given cs a e = sym (all-passed cs a e a) ∙ e
 
+-- nor is there one that is the first to hold
+pub none-first : {A : Type 0} (cs : List Cause) (a : Answer A) {w : A} → unless cs a ≡ Given w → (n p : ℕ) → First cs n p → ⊥
+none-first cs a {w} e n p f = let refused : Refused n p ≡ Given w = first-refuses f a ∙ e in let z : _≡_ {A = ℕ} 0 1 = cc in omega arith
+
 -- What is made of two answers behind causes, by f and by g, is the same, if it is of each refusal, and of the answers themselves where the causes let the
 -- same value pass.
 pub unless-same : {A B R : Type 0} (f g : Answer A → R) (cs ds : List Cause) (a b : Answer A) (v w : B) → unless cs (Given v) ≡ unless ds (Given w)

@@ -1,5 +1,5 @@
--- Two sheets that agree in all that counts: they may differ in job tags and in the bytes of records that the walk does not visit (spare records, in
--- docs/FORMAT.md). `readUntagged` is what they then have in common.
+-- Two sheets that agree in all that counts (`Agree`): they may differ in job tags and in the bytes of records that the walk does not visit (spare records, in
+-- docs/FORMAT.md), and `readUntagged` is what they have in common. Or they agree in all that counts but the start set (`AgreeButStart`).
 use Prim.Native.Nat.{ℕ, _+_, _≤_, _<_}
 use mathlib.Core.Path.{_≡_}
 use mathlib.Core.List.{List, map}
@@ -7,7 +7,7 @@ use lib.ListN.{length}
 use Rattle.format.specs.declared.Step.{Step}
 use Rattle.format.specs.Answer.{Answer, Given, unless}
 use Rattle.format.specs.Numbers.{byteAt}
-use Rattle.format.specs.Format.{headerSize, tagAt, recordOffset, recordsOf, nextOf}
+use Rattle.format.specs.Format.{headerSize, startAt, tagAt, recordOffset, recordsOf, nextOf}
 use Rattle.format.specs.Reading.{readCauses, Campaign, campaignOf}
 
 -- The walk visits the header, which counts as record 0, and from each record that it visits the next one, if that is a record of the sheet.
@@ -15,11 +15,19 @@ pub data Visited (s : List ℕ) : ℕ → Type 0 where
   begun : Visited s 0
   onward : {j : ℕ} → Visited s j → nextOf s j ≤ recordsOf s → Visited s (nextOf s j)
 
--- Their lengths, their headers and, in each record that the walk along the first visits, the bytes before the tag are equal.
-pub record Agree (s t : List ℕ) : Type 0 where
+-- Their lengths, the first k bytes of their headers and, in each record that the walk along the first visits, the bytes before the tag are equal.
+pub record AgreeTo (k : ℕ) (s t : List ℕ) : Type 0 where
   pub lengths : length s ≡ length t
-  pub headers : (i : ℕ) → i < headerSize → byteAt s i ≡ byteAt t i
+  pub headers : (i : ℕ) → i < k → byteAt s i ≡ byteAt t i
   pub records : (j : ℕ) → 0 < j → Visited s j → (i : ℕ) → i < tagAt → byteAt s (recordOffset j + i) ≡ byteAt t (recordOffset j + i)
+
+-- their whole headers are equal
+abbrev pub Agree : List ℕ → List ℕ → Type 0
+Agree = AgreeTo headerSize
+
+-- their headers are equal but for the start set
+abbrev pub AgreeButStart : List ℕ → List ℕ → Type 0
+AgreeButStart = AgreeTo startAt
 
 -- a step without its tag, and a campaign without tags
 abbrev pub untagged : Step → Step

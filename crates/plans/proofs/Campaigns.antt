@@ -1,7 +1,7 @@
 -- Worked campaigns of two units, computed from the definitions: the plan that is handed out against all plans, and a chart. A definition of another
 -- planner, as one that fills early, ranks by what is past or by need alone, makes a row false.
 use mathlib.Core.Path.{_≡_, refl}
-use mathlib.Core.List.{List, [], _∷_}
+use mathlib.Core.List.{List, [], _∷_, map}
 use Prim.Native.Nat.{ℕ}
 use lib.Count.{ones, onesIn}
 use Rattle.units.specs.Sets.{bit, union, intersection, difference, contains, insert, remove, isSubset, size, unitsBelow}
@@ -9,7 +9,7 @@ use Rattle.plans.specs.declared.Limits.{Limits}
 use Rattle.plans.specs.Plans.{select, below, allows, prefixed, plansOf, leastOf, fewest, plansWithin, joined, joinedAll, canBeOn, canBeOff}
 use Rattle.plans.specs.Rows.{limits}
 use Rattle.plans.specs.Support.{nextRequired, nextForbidden, requiredFirst, ranksBefore, firstIn, taken, supportSet, supportFrom, findSupport}
-use Rattle.plans.specs.Switch.{switches, total}
+use Rattle.plans.specs.Switch.{switches, total, laterTotal}
 
 -- FindSupport's plan has the fewest switches
 abbrev Best : ℕ → List Limits → Type 0
@@ -29,6 +29,15 @@ pub plans-best :
     × Best 3 (narrow ∷ asks 0 2 ∷ asks 1 3 ∷ asks 2 3 ∷ []))
 unfolding bit union intersection difference contains insert remove isSubset size unitsBelow select below allows prefixed plansOf leastOf fewest nextRequired nextForbidden requiredFirst ranksBefore firstIn taken supportSet supportFrom findSupport switches total ones onesIn
 plans-best = (refl, (refl, refl))
+
+-- With both units on before the first step, its total is the least, over all plans, of the switches from the second step on: one where unit 0 alone must be on
+-- in the first step and unit 1 in the second, and none without a step.
+abbrev BestLater : List Limits → Type 0
+BestLater ss = total 3 (findSupport 3 ss) ≡ leastOf (map laterTotal (plansOf allows 2 ss))
+
+pub later-best : BestLater (limits 1 3 0 1 ∷ asks 2 3 ∷ []) × BestLater []
+unfolding bit union intersection difference contains insert remove isSubset size unitsBelow select below allows prefixed plansOf leastOf nextRequired nextForbidden requiredFirst ranksBefore firstIn taken supportSet supportFrom findSupport switches total laterTotal ones onesIn
+later-best = (refl, refl)
 
 -- Where just one of two units must be on, either can be on, and either can be off, and no unit beyond them.
 pub either-can : (canBeOn allows 2 1 0 (limits 0 3 1 1 ∷ []) ≡ 3 ∷ []) × (canBeOff allows 2 1 0 (limits 0 3 1 1 ∷ []) ≡ 3 ∷ [])

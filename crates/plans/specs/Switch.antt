@@ -49,3 +49,8 @@ switches before x = size (difference x before)
 unfoldable pub total : ℕ → List ℕ → ℕ
 total before [] = 0
 total before (x ∷ xs) = switches before x + total x xs
+
+-- those counted from the second step on, so that the loading of the first is left out; 0 if there is no step
+unfoldable pub laterTotal : List ℕ → ℕ
+laterTotal [] = 0
+laterTotal (x ∷ xs) = total x xs

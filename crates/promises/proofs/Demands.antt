@@ -3,11 +3,11 @@
 -- Demand 1. For any input and any lent memory, an entry gives a full reply or one refusal of a fixed list with its place. A refusal is given
 -- exactly when its cause holds and no earlier one of the table does (docs/FORMAT.md), and it leaves the lent memory as it came (the listings, which are texts, put
 -- a line that says it). The table is the list of causes that stands in the statement: `stepsRefusals`, with `readCauses` in it, or `writeRefusals` are one line for each cause, in the order of the checks.
-use mathlib.Core.Path.{_≡_, refl, sym, ap, _∙_}
+use mathlib.Core.Path.{_≡_, refl, sym, ap, subst, _∙_}
 use mathlib.Core.Logic.{_↔_, _⊎_, inl, inr}
 use mathlib.Core.Bool.{true, false}
 use mathlib.Core.List.{List, [], _++_, map}
-use Prim.Native.Nat.{ℕ, suc, _+_, _^_, _≤_, _<_, min}
+use Prim.Native.Nat.{ℕ, suc, _+_, _-_, _^_, _≤_, _<_, min}
 use native.Mathlib.Omega.{arith}
 use lib.ListN.{length, length-map, take, drop}
 use lib.Seq.{take-at}
@@ -15,17 +15,18 @@ use Rattle.units.specs.Limits.{Feasible, HasSize, hasFeasible}
 use Rattle.units.specs.Sets.{size}
 use Rattle.units.specs.declared.Sizes.the-variants.{Between}
 use Rattle.units.proofs.Limits.{some-feasible, sizes-exact, sizes-ordered, some-sizes}
+use Rattle.plans.specs.declared.Limits.{Limits}
 use Rattle.plans.specs.Rows.{stepAt}
-use Rattle.plans.specs.Switch.{Allows, sizesOf, total}
+use Rattle.plans.specs.Switch.{Allows, sizesOf, FeasiblePlan, total}
 use Rattle.plans.proofs.Laid.{feasible-at}
 use Rattle.format.specs.declared.Step.{Step}
-use Rattle.format.specs.Agreement.{Agree, untagged, readUntagged}
+use Rattle.format.specs.Agreement.{Agree, AgreeButStart, untagged, readUntagged}
 use Rattle.format.specs.Answer.{Refused, Given, unless}
 use Rattle.format.specs.Chain.{following, chainOf, linkCauses}
-use Rattle.format.specs.Format.{sheetLength, limitsOf, unitsOf, recordsOf, boundOf, startOf}
+use Rattle.format.specs.Format.{startAt, sheetLength, limitsOf, unitsOf, recordsOf, boundOf, startOf}
 use Rattle.format.specs.Reading.{stepsCauses, recordsOn, stepsOf, readCauses, campaignOf, campaignRead}
 use Rattle.format.specs.Writing.{sheetOf, numbersFrom, AllWide}
-use Rattle.format.proofs.Agreements.{same-read}
+use Rattle.format.proofs.Agreements.{agree-itself, same-read}
 use Rattle.format.proofs.Answers.{none-holds, numbered-append, Numbered}
 use Rattle.format.proofs.Chains.{chain-is-long-enough}
 use Rattle.format.proofs.Readings.{numbered-read}
@@ -36,7 +37,7 @@ use Rattle.promises.specs.Plan.{supportOn, boundCauses, planRefusals, pl
 use Rattle.promises.specs.declared.Reply.{Reply}
 use Rattle.promises.specs.declared.Written.{Written}
 use Rattle.promises.specs.Listing.{refusedLine, planLines, listingRefusals, listed, listing, printed, listPlan, sizesLines, sizesListed, sizesListing, listSizes}
-use Rattle.promises.specs.Statements.{Exact, Passes, Meets, HandedOut, FewestAndExact}
+use Rattle.promises.specs.Statements.{Exact, Passes, Meets, HandedOut, FewestAndExact, FewestLater}
 use Rattle.promises.specs.Steps.{stepsRefusals, stepsReply, stepsWritten, warmSteps}
 use Rattle.promises.specs.Verdict.{wordsCauses, verdictRefusals, accepts, judged, warmVerdict}
 use Rattle.promises.specs.Write.{writeRefusals, refusedWritten, fullWritten, wrote, warmWrite}
@@ -45,6 +46,7 @@ use Rattle.promises.proofs.Exactly.{exact, no-first}
 use Rattle.promises.proofs.Likeness.{alike-reply, alike-list, alike-plan, alike-chart, alike-verdict, alike-listing, alike-sizes}
 use Rattle.promises.proofs.Plans.{plan-fewest, plan-length-on, over-bound, in-bound, plan-open, plan-given}
 use Rattle.promises.proofs.Read.{satisfiable, passed}
+use Rattle.promises.proofs.Restarts.{restarted, total-restarted, no-switches}
 use Rattle.promises.proofs.Verdicts.{verdict-given, accepts-exactly, turned-down}
 use Rattle.promises.proofs.Writes.{Limited, limited, write-numbers}
 
@@ -215,6 +217,35 @@ each-step-has-sizes s ok i l =
 pub the-walk-ends : (s : List ℕ) (r more : ℕ)
     → unless (linkCauses r [] 0 (following (suc r + more) s 0)) (Given (following (suc r + more) s 0)) ≡ unless (linkCauses r [] 0 (chainOf s r)) (Given (chainOf s r))
 the-walk-ends s r more = chain-is-long-enough s r more
+
+-- ---- the count that leaves out the loading of the first step
+
+-- Take any sheet s that passes the checks, and t, which is s with its start set replaced by all d units: it has the same length and the same bytes but for those
+-- of the start set (and it may differ in tags and unused records, which play no part). With outputs that have a place for every step, plan and chart of t report
+-- the least, over all feasible plans of s, of the switches counted from the second step on, as their total or as the place of refusal 9.
+pub first-loading-left-out : (s t plan on off : List ℕ) → Passes s → AgreeButStart s t → startOf t ≡ 2 ^ unitsOf s - 1
+    → length (stepsOf s) ≤ length plan → length (stepsOf s) ≤ length on → length (stepsOf s) ≤ length off
+    → FewestLater s t plan on off (total (startOf t) (supportOn t))
+first-loading-left-out s t plan on off ok g all plan-room on-room off-room =
+    let r = restarted s t ok g all in
+    let later = total-restarted s t ok g all in
+    let best = demand-3 t plan on off (r .passes) (omega (arith, r .many)) (omega (arith, r .many)) (omega (arith, r .many)) in
+    let feasible = subst (λ (ss : List Limits). FeasiblePlan ss (supportOn t)) (r .limits) (best .feasible) in
+    record {
+      some = (supportOn t, (feasible, sym (later (supportOn t) feasible)));
+      fewest = λ q f. omega (arith, best .fewest q (subst (λ (ss : List Limits). FeasiblePlan ss q) (sym (r .limits)) f), later q f);
+      noStep = λ none. no-switches t (r .limits ∙ ap (map limitsOf) none);
+      planOver = λ h i. best .planOver (omega (arith, r .bound)) i .0;
+      chartOver = λ h i. best .chartOver (omega (arith, r .bound)) i .0;
+      planWithin = λ h i. best .planWithin (omega (arith, r .bound)) i .0;
+      chartWithin = λ h i. best .chartWithin (omega (arith, r .bound)) i .0;
+    }
+
+-- with t = s: so it is with a sheet whose start set holds all d units already
+pub all-units-on-at-the-start : (s plan on off : List ℕ) → Passes s → startOf s ≡ 2 ^ unitsOf s - 1
+    → length (stepsOf s) ≤ length plan → length (stepsOf s) ≤ length on → length (stepsOf s) ≤ length off
+    → FewestLater s s plan on off (total (startOf s) (supportOn s))
+all-units-on-at-the-start s plan on off ok = first-loading-left-out s s plan on off ok (agree-itself startAt s)
 
 -- ---- a sheet that was written
 

@@ -19,17 +19,20 @@ use Rattle.promises.specs.Verdict.{verdictRefusals, accepts, judged, war
 use Rattle.promises.specs.Write.{writeRefusals, wrote, warmWrite}
 use Rattle.promises.specs.Digits.{decimalIn, decimal}
 use Rattle.promises.specs.Listing.{refusedLine, sizesLine, sizesLines, sizesListed, sizesListing}
-use Rattle.promises.specs.Examples.{All, benches, replies, choices, writings, sizings}
+use Rattle.promises.specs.Examples.{All, benches, replies, choices, writings, sizings, loadings}
 
-pub examples-hold : All benches × (All replies × (All choices × (All writings × All sizings)))
-unfolding feasibleSizes hasFeasible bit union intersection difference contains insert remove isSubset size unitsBelow hasUnitFrom unless following chainOf isIn linkCauses stepOf nextOf byteAt u16At u32At u64At same stepsCauses readCauses campaignOf select below allows isFeasible prefixed plansOf leastOf fewest plansWithin joined joinedAll canBeOn canBeOff nextRequired nextForbidden requiredFirst ranksBefore firstIn taken supportSet supportFrom findSupport switches total stepsRefusals stepsReply stepsWritten warmSteps fewestOn supportOn planRefusals planned warmPlan onWords offWords charted warmChart verdictRefusals accepts judged warmVerdict writeRefusals wrote warmWrite bytesOf headerBytes recordBytes linkIn recordsAfter sheetOf decimalIn decimal refusedLine sizesLine sizesLines sizesListed sizesListing ones onesIn benches replies choices writings sizings
+pub examples-hold : All benches × (All replies × (All choices × (All writings × (All sizings × All loadings))))
+unfolding feasibleSizes hasFeasible bit union intersection difference contains insert remove isSubset size unitsBelow hasUnitFrom unless following chainOf isIn linkCauses stepOf nextOf byteAt u16At u32At u64At same stepsCauses readCauses campaignOf select below allows isFeasible prefixed plansOf leastOf fewest plansWithin joined joinedAll canBeOn canBeOff nextRequired nextForbidden requiredFirst ranksBefore firstIn taken supportSet supportFrom findSupport switches total stepsRefusals stepsReply stepsWritten warmSteps fewestOn supportOn planRefusals planned warmPlan onWords offWords charted warmChart verdictRefusals accepts judged warmVerdict writeRefusals wrote warmWrite bytesOf headerBytes recordBytes linkIn recordsAfter sheetOf decimalIn decimal refusedLine sizesLine sizesLines sizesListed sizesListing ones onesIn benches replies choices writings sizings loadings
 examples-hold = (
   (refl, (refl, (refl, (refl, (refl, (refl, (refl, (refl, (refl, (refl, (refl, tt))))))))))),
   (
     (refl, (refl, (refl, (refl, (refl, (refl, (refl, (refl, (refl, (refl, (refl, tt))))))))))),
     (
       (refl, (refl, (refl, (refl, (refl, (refl, (refl, (refl, (refl, (refl, (refl, (refl, tt)))))))))))),
-      ((refl, (refl, (refl, (refl, (refl, (refl, (refl, (refl, tt)))))))), (refl, (refl, (refl, (refl, (refl, (refl, tt))))))),
+      (
+        (refl, (refl, (refl, (refl, (refl, (refl, (refl, (refl, tt)))))))),
+        ((refl, (refl, (refl, (refl, (refl, (refl, tt)))))), (refl, (refl, (refl, (refl, tt))))),
+      ),
     ),
   ),
 )

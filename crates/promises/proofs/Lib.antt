@@ -1,6 +1,6 @@
 -- `Demands` has the theorems that were asked for: open it first. `Exactly` has the law behind demand 1. `Read` has what is known of a sheet that was read.
 -- `Steps`, `Plans`, `Charts`, `Verdicts`, `Writes` and `Listings` have the laws on each entry's answer, `Likeness` those on sheets that are read the same but for
--- tags, and `Examples` the worked examples.
+-- tags, `Restarts` those on a sheet whose start set is replaced, and `Examples` the worked examples.
 pub mod Charts
 pub mod Demands
 pub mod Examples
@@ -9,6 +9,7 @@ mod Likeness
 pub mod Listings
 pub mod Plans
 pub mod Read
+mod Restarts
 pub mod Steps
 pub mod Verdicts
 pub mod Writes

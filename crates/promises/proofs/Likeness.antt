@@ -26,6 +26,16 @@ use Rattle.promises.proofs.Plans.{plan-staged}
 use Rattle.promises.proofs.Steps.{steps-staged}
 use Rattle.promises.proofs.Verdicts.{verdict-staged}
 
+-- ---- steps that are the same but for tags
+
+-- are as many
+pub untagged-many : (xs ys : List Step) → map untagged xs ≡ map untagged ys → length xs ≡ length ys
+untagged-many xs ys e = sym (length-map xs untagged) ∙ ap length e ∙ length-map ys untagged
+
+-- and have the same limits
+pub untagged-limits : (xs ys : List Step) → map untagged xs ≡ map untagged ys → map limitsOf xs ≡ map limitsOf ys
+untagged-limits xs ys e = sym (map-map limitsOf untagged xs) ∙ ap (map limitsOf) e ∙ map-map limitsOf untagged ys
+
 -- ---- what is made of campaigns that are the same but for tags
 
 module _ (s t : List ℕ) (a : withoutTags (campaignOf s) ≡ withoutTags (campaignOf t)) where
@@ -46,10 +56,10 @@ module _ (s t : List ℕ) (a : withoutTags (campaignOf s) ≡ withoutTags (campa
   same-steps = λ i. a i .steps
 
   same-many : length (stepsOf s) ≡ length (stepsOf t)
-  same-many = sym (length-map (stepsOf s) untagged) ∙ ap length same-steps ∙ length-map (stepsOf t) untagged
+  same-many = untagged-many (stepsOf s) (stepsOf t) same-steps
 
   same-limits : limitsOn s ≡ limitsOn t
-  same-limits = sym (map-map limitsOf untagged (stepsOf s)) ∙ ap (map limitsOf) same-steps ∙ map-map limitsOf untagged (stepsOf t)
+  same-limits = untagged-limits (stepsOf s) (stepsOf t) same-steps
 
   same-fewest : fewestOn s ≡ fewestOn t
   unfolding fewestOn

@@ -159,3 +159,13 @@ sizings =
     ∷ sizes noStep []
     ∷ sizes (justSome 255) (114 ∷ 101 ∷ 102 ∷ 117 ∷ 115 ∷ 101 ∷ 100 ∷ 32 ∷ 55 ∷ 32 ∷ 49 ∷ 10 ∷ [])
     ∷ []
+
+-- The loading of the first step left out: Four runs with all units on at the start. Of the plan's switches only that of step 3 is left, and a bound of 0 is below
+-- it. A sheet without a step has none.
+unfoldable pub loadings : List Example
+loadings =
+    plan (fourRuns 3 7) nines (fullReply 1 0) (3 ∷ 3 ∷ 5 ∷ 5 ∷ 9 ∷ [])
+    ∷ plan (fourRuns 0 7) nines (refusedReply 9 1) nines
+    ∷ chart (fourRuns 0 7) nines nines (refusedReply 9 1) nines nines
+    ∷ plan (sheetOf 3 0 7 []) nines (fullReply 0 0) nines
+    ∷ []

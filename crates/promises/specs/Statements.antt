@@ -2,13 +2,13 @@
 use Prim.Native.Nat.{ℕ, _≤_, _<_}
 use mathlib.Core.Path.{_≡_}
 use mathlib.Core.Logic.{_↔_, _⊎_}
-use mathlib.Core.List.{List}
+use mathlib.Core.List.{List, []}
 use lib.ListN.{length, getD, take}
 use Rattle.units.specs.Sets.{bit}
 use Rattle.format.specs.Answer.{Cause, First}
 use Rattle.format.specs.Format.{unitsOf, boundOf, startOf}
 use Rattle.format.specs.Reading.{stepsOf, readCauses}
-use Rattle.plans.specs.Switch.{FeasiblePlan, total}
+use Rattle.plans.specs.Switch.{FeasiblePlan, total, laterTotal}
 use Rattle.promises.specs.declared.Reply.{Reply}
 use Rattle.promises.specs.Common.{limitsOn, written, refusedReply, fullReply}
 use Rattle.promises.specs.Plan.{supportOn, warmPlan}
@@ -60,3 +60,16 @@ pub record FewestAndExact (s plan on off : List ℕ) (best : ℕ) : Type 0 where
   pub onCells : (i u : ℕ) → i < length (stepsOf s) → u < unitsOf s → (bit (getD (onWords s) i 0) u ≡ 1) ↔ SomePlanHas s i u 1
   pub offCells : (i u : ℕ) → i < length (stepsOf s) → u < unitsOf s → (bit (getD (offWords s) i 0) u ≡ 1) ↔ SomePlanHas s i u 0
   pub noOthers : (i u : ℕ) → i < length (stepsOf s) → unitsOf s ≤ u → (bit (getD (onWords s) i 0) u ≡ 0) × (bit (getD (offWords s) i 0) u ≡ 0)
+
+-- The count that leaves out the loading of the first step, on a sheet s, on t, which is s with all d units in its start set, and on lent outputs.
+pub record FewestLater (s t plan on off : List ℕ) (best : ℕ) : Type 0 where
+  -- `best` is the least that is counted so: some feasible plan of s has so many switches from its second step on, and no feasible plan of s has fewer;
+  -- without a step it is 0
+  pub some : (p : List ℕ) × (FeasiblePlan (limitsOn s) p × (laterTotal p ≡ best))
+  pub fewest : (other : List ℕ) → FeasiblePlan (limitsOn s) other → best ≤ laterTotal other
+  pub noStep : stepsOf s ≡ [] → best ≡ 0
+  -- plan and chart of t report it: as the place of refusal 9 if it is above the bound, and else as their total
+  pub planOver : boundOf s < best → warmPlan t plan .0 ≡ refusedReply 9 best
+  pub chartOver : boundOf s < best → warmChart t on off .0 ≡ refusedReply 9 best
+  pub planWithin : best ≤ boundOf s → warmPlan t plan .0 ≡ fullReply best 0
+  pub chartWithin : best ≤ boundOf s → warmChart t on off .0 ≡ fullReply best 0

@@ -63,3 +63,13 @@ pub fn feasible(step: &warm::Step, set: u64) -> bool {
         && set.count_ones() >= u32::from(step.least)
         && set.count_ones() <= u32::from(step.greatest)
 }
+
+/// All feasible plans of some steps of so many units.
+pub fn all_plans(units: usize, steps: &[warm::Step]) -> Vec<Vec<u64>> {
+    let Some((first, later)) = steps.split_first() else {
+        return vec![vec![]];
+    };
+    let rests = all_plans(units, later);
+    let sets = (0..1 << units).filter(|&set| feasible(first, set));
+    sets.flat_map(|set| rests.iter().map(move |rest| [&[set], &rest[..]].concat())).collect()
+}

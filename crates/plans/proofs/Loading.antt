@@ -1,0 +1,32 @@
+-- Where all units below d are on before the first step, loading it makes no switch: the total of a feasible plan is then the one counted from its second step
+-- on (`total-later`).
+use mathlib.Core.Path.{_≡_, refl, ap, _∙_}
+use mathlib.Core.List.{List, [], _∷_}
+use Prim.Native.Nat.{ℕ, _-_, _^_, _<_, _≤_}
+use native.Mathlib.Decide.{decLt}
+use native.Mathlib.Omega.{arith}
+use Rattle.units.specs.Sets.{bit, difference, size, Subset}
+use Rattle.units.proofs.Sets.{bit-le, bit-empty, bit-above, bit-full, bit-difference, set-ext, size-empty, subset-below}
+use Rattle.plans.specs.declared.Limits.{Limits}
+use Rattle.plans.specs.Plans.{Below}
+use Rattle.plans.specs.Switch.{FeasiblePlan, switches, total, laterTotal}
+
+-- a set below 2 ^ d has only units below d
+among-all : (d x : ℕ) → x < 2 ^ d → Subset x (2 ^ d - 1)
+among-all d x h u = go (decLt u d)
+  where
+    go : Dec (u < d) → bit x u ≤ bit (2 ^ d - 1) u
+    go (yes l) = omega (arith, bit-full d u l, bit-le x u)
+    go (no n) = omega (arith, bit-above d x u h (omega arith))
+
+-- units that were on make no switch
+none-new : (before x : ℕ) → Subset x before → switches before x ≡ 0
+unfolding switches
+none-new before x h = ap size (set-ext (difference x before) 0 (λ u. omega (arith, bit-difference x before u, h u, bit-empty u))) ∙ size-empty
+
+pub total-later : (d : ℕ) (ss : List Limits) (p : List ℕ) → Below d ss → FeasiblePlan ss p → total (2 ^ d - 1) p ≡ laterTotal p
+unfolding total laterTotal
+total-later d [] [] b f = refl
+total-later d [] (x ∷ xs) b f = absurd f
+total-later d (s ∷ ss) [] b f = absurd f
+total-later d (s ∷ ss) (x ∷ xs) b f = omega (arith, none-new (2 ^ d - 1) x (among-all d x (subset-below d x (s .upper) (f .0 .within) (b .0))))
