@@ -19,9 +19,9 @@
 //! greatest number. Its *warm-ups* in a step are the units that are on there and were off in the step before; before the first step, the
 //! start set is on. Its *total* is the sum over all steps. A plan *meets the sheet* if it is feasible and its total is at most the bound.
 //!
-//! Some papers leave out the loading of the first step. With all units in the start set, the total of [`plan`] and [`chart`], or the number
-//! at which they are refused for their bound, is what those papers count: the least that any feasible plan has from its second step on. In
-//! the example below it is 1:
+//! Some papers leave out the loading of the first step. With all units in the start set, the total of [`plan`] and [`chart`], or the count
+//! that comes with [`Refusal::Bound`], is what those papers count: the least that any feasible plan has from its second step on, or 0 if
+//! there is no step. For the steps of the [example](#example) at the end of this page it is 1:
 //!
 //! ```
 //! # let steps = [0b001, 0b010, 0b100, 0b001].map(|lower| warm::Step::new(lower, 0b111, 0, 2, 0));

@@ -18,7 +18,7 @@ fn least_by_plans(campaign: &Campaign) -> u32 {
     all_plans(campaign.units, &campaign.steps).iter().map(later_total).min().unwrap()
 }
 
-/// The same, over all sets of the first step: the fewest warm-ups of the later steps, if it is on before them.
+/// The same, over all feasible sets of the first step: the fewest warm-ups of the later steps with that set on before them.
 fn least_by_first_sets(campaign: &Campaign) -> u32 {
     let Some((first, later)) = campaign.steps.split_first() else {
         return 0;

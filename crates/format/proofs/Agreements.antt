@@ -1,6 +1,6 @@
 -- Sheets that agree are read the same but for tags (`same-read`). The walk visits the same records of both, one after the other (`same-links`): where the last
 -- link leads out of the sheet or back, both get the same refusal, and else their steps differ in tags alone. The start set plays a part in one cause only: where
--- it gives the same there, sheets that agree up to it are read the same but for tags and the start set (`same-said`).
+-- that cause holds of both sheets or of neither, sheets that agree up to the start set are read the same but for tags and the start set (`same-but-start`).
 use mathlib.Core.Path.{_≡_, refl, sym, ap, ap₂, _∙_}
 use mathlib.Core.List.{List, [], _∷_, _++_, map}
 use Prim.Native.Nat.{ℕ, zero, suc, _+_, _≤_, _<_, min}
@@ -49,12 +49,12 @@ pub agree-itself : (k : ℕ) (s : List ℕ) → AgreeTo k s s
 agree-itself k s = record { lengths = refl; headers = λ i h. refl; records = λ j h v i l. refl }
 
 -- a sheet's campaign without tags, with `start` in the place of its start set
-abbrev pub campaignFrom : ℕ → List ℕ → Campaign
-campaignFrom start s = record { units = unitsOf s; bound = boundOf s; start = start; steps = map untagged (stepsOf s) }
+abbrev pub campaignWith : ℕ → List ℕ → Campaign
+campaignWith start s = record { units = unitsOf s; bound = boundOf s; start = start; steps = map untagged (stepsOf s) }
 
 -- one refusal of 1 to 7, or that campaign
-abbrev pub saidFrom : ℕ → List ℕ → Answer Campaign
-saidFrom start s = unless (readCauses s) (Given (campaignFrom start s))
+abbrev pub readWith : ℕ → List ℕ → Answer Campaign
+readWith start s = unless (readCauses s) (Given (campaignWith start s))
 
 -- agreement up to the start set at least
 module _ {k : ℕ} (enough : startAt ≤ k) (s t : List ℕ) (g : AgreeTo k s t) where
@@ -128,9 +128,9 @@ module _ {k : ℕ} (enough : startAt ≤ k) (s t : List ℕ) (g : AgreeTo k s t)
           ∙ sym (ap (judged ofT) (follow-on k t holder (λ e. n (same-next v ∙ e))))
 
   -- so the one gets the refusal that the other gets, or says the same but for tags and the start set
-  pub same-said : hasUnitFrom (startOf s) (unitsOf s) ≡ hasUnitFrom (startOf t) (unitsOf t) → (start : ℕ) → saidFrom start s ≡ saidFrom start t
+  pub same-but-start : hasUnitFrom (startOf s) (unitsOf s) ≡ hasUnitFrom (startOf t) (unitsOf t) → (start : ℕ) → readWith start s ≡ readWith start t
   unfolding chainOf
-  same-said own start =
+  same-but-start own start =
       staged s
       ∙ ap₂ unless (same-form own)
       (same-links (recordsOf s) (suc (recordsOf s)) [] 0 (along s) (along t) refl begun (λ js e i. said (same-units i) (same-bound i) (e i))
@@ -147,15 +147,15 @@ module _ {k : ℕ} (enough : startAt ≤ k) (s t : List ℕ) (g : AgreeTo k s t)
       linked : ℕ → List ℕ → Answer Campaign
       linked r s = unless (linkCauses r [] 0 (following (suc r) s 0)) (along s (following (suc r) s 0))
 
-      staged : (s : List ℕ) → saidFrom start s ≡ unless (formCauses s ++ headerCauses s) (linked (recordsOf s) s)
+      staged : (s : List ℕ) → readWith start s ≡ unless (formCauses s ++ headerCauses s) (linked (recordsOf s) s)
       staged s =
-          read-staged s (Given (campaignFrom start s))
-          ∙ ap (λ cs. unless (openCauses s) (unless cs (Given (campaignFrom start s)))) (sym (untagged-causes (unitsOf s) 1 (stepsOf s)))
+          read-staged s (Given (campaignWith start s))
+          ∙ ap (λ cs. unless (openCauses s) (unless cs (Given (campaignWith start s)))) (sym (untagged-causes (unitsOf s) 1 (stepsOf s)))
           ∙ open-staged s (along s (recordsOn s))
 
 -- and where the start sets are the same, it says the same but for tags
 pub same-read : (s t : List ℕ) → Agree s t → readUntagged s ≡ readUntagged t
 unfolding campaignOf
 same-read s t g =
-    let start = same-u64 s t 0 0 _ (heads (omega arith) s t g) startAt (omega arith) in
-    same-said (omega arith) s t g (ap₂ hasUnitFrom start (same-units (omega arith) s t g)) (startOf s) ∙ ap (λ (x : ℕ). saidFrom x t) start
+    let same-start = same-u64 s t 0 0 _ (heads (omega arith) s t g) startAt (omega arith) in
+    same-but-start (omega arith) s t g (ap₂ hasUnitFrom same-start (same-units (omega arith) s t g)) (startOf s) ∙ ap (λ (x : ℕ). readWith x t) same-start

@@ -86,9 +86,9 @@ all-passed (c ∷ cs) a e b = let p = passed-first c cs _ e in sym (passed-by c 
 pub unless-given : {A : Type 0} (cs : List Cause) (a : Answer A) {w : A} → unless cs a ≡ Given w → a ≡ Given w
 unless-given cs a e = sym (all-passed cs a e a) ∙ e
 
--- nor is there one that is the first to hold
-pub none-first : {A : Type 0} (cs : List Cause) (a : Answer A) {w : A} → unless cs a ≡ Given w → (n p : ℕ) → First cs n p → ⊥
-none-first cs a {w} e n p f = let refused : Refused n p ≡ Given w = first-refuses f a ∙ e in let z : _≡_ {A = ℕ} 0 1 = cc in omega arith
+-- where a value is given, no cause is the first that holds
+pub given-passes : {A : Type 0} (cs : List Cause) (a : Answer A) {w : A} → unless cs a ≡ Given w → (n p : ℕ) → First cs n p → ⊥
+given-passes cs a {w} e n p f = let refused : Refused n p ≡ Given w = first-refuses f a ∙ e in let z : _≡_ {A = ℕ} 0 1 = cc in omega arith
 
 -- What is made of two answers behind causes, by f and by g, is the same, if it is of each refusal, and of the answers themselves where the causes let the
 -- same value pass.

@@ -1,5 +1,5 @@
 -- Two sheets that agree in all that counts (`Agree`): they may differ in job tags and in the bytes of records that the walk does not visit (spare records, in
--- docs/FORMAT.md), and `readUntagged` is what they have in common. Or they agree in all that counts but the start set (`AgreeButStart`).
+-- docs/FORMAT.md), and `readUntagged` is what they have in common. Sheets that agree but for the start set (`AgreeButStart`) may differ in that too.
 use Prim.Native.Nat.{ℕ, _+_, _≤_, _<_}
 use mathlib.Core.Path.{_≡_}
 use mathlib.Core.List.{List, map}
@@ -21,11 +21,11 @@ pub record AgreeTo (k : ℕ) (s t : List ℕ) : Type 0 where
   pub headers : (i : ℕ) → i < k → byteAt s i ≡ byteAt t i
   pub records : (j : ℕ) → 0 < j → Visited s j → (i : ℕ) → i < tagAt → byteAt s (recordOffset j + i) ≡ byteAt t (recordOffset j + i)
 
--- their whole headers are equal
+-- agreement up to the end of the header
 abbrev pub Agree : List ℕ → List ℕ → Type 0
 Agree = AgreeTo headerSize
 
--- their headers are equal but for the start set
+-- agreement up to the start set, which is the last field of the header
 abbrev pub AgreeButStart : List ℕ → List ℕ → Type 0
 AgreeButStart = AgreeTo startAt
 

@@ -30,11 +30,11 @@ pub plans-best :
 unfolding bit union intersection difference contains insert remove isSubset size unitsBelow select below allows prefixed plansOf leastOf fewest nextRequired nextForbidden requiredFirst ranksBefore firstIn taken supportSet supportFrom findSupport switches total ones onesIn
 plans-best = (refl, (refl, refl))
 
--- With both units on before the first step, its total is the least, over all plans, of the switches from the second step on: one where unit 0 alone must be on
--- in the first step and unit 1 in the second, and none without a step.
+-- with both units on before the first step, the total of FindSupport's plan is the least, over all plans, of the switches from the second step on
 abbrev BestLater : List Limits → Type 0
 BestLater ss = total 3 (findSupport 3 ss) ≡ leastOf (map laterTotal (plansOf allows 2 ss))
 
+-- One, where unit 0 must be on alone in the first step and unit 1 in the second. None without a step.
 pub later-best : BestLater (limits 1 3 0 1 ∷ asks 2 3 ∷ []) × BestLater []
 unfolding bit union intersection difference contains insert remove isSubset size unitsBelow select below allows prefixed plansOf leastOf nextRequired nextForbidden requiredFirst ranksBefore firstIn taken supportSet supportFrom findSupport switches total laterTotal ones onesIn
 later-best = (refl, refl)

@@ -2,22 +2,13 @@
 -- on (`total-later`).
 use mathlib.Core.Path.{_≡_, refl, ap, _∙_}
 use mathlib.Core.List.{List, [], _∷_}
-use Prim.Native.Nat.{ℕ, _-_, _^_, _<_, _≤_}
-use native.Mathlib.Decide.{decLt}
+use Prim.Native.Nat.{ℕ, _-_, _^_}
 use native.Mathlib.Omega.{arith}
-use Rattle.units.specs.Sets.{bit, difference, size, Subset}
-use Rattle.units.proofs.Sets.{bit-le, bit-empty, bit-above, bit-full, bit-difference, set-ext, size-empty, subset-below}
+use Rattle.units.specs.Sets.{difference, size, Subset}
+use Rattle.units.proofs.Sets.{bit-empty, bit-difference, set-ext, size-empty, subset-below, subset-full}
 use Rattle.plans.specs.declared.Limits.{Limits}
 use Rattle.plans.specs.Plans.{Below}
 use Rattle.plans.specs.Switch.{FeasiblePlan, switches, total, laterTotal}
-
--- a set below 2 ^ d has only units below d
-among-all : (d x : ℕ) → x < 2 ^ d → Subset x (2 ^ d - 1)
-among-all d x h u = go (decLt u d)
-  where
-    go : Dec (u < d) → bit x u ≤ bit (2 ^ d - 1) u
-    go (yes l) = omega (arith, bit-full d u l, bit-le x u)
-    go (no n) = omega (arith, bit-above d x u h (omega arith))
 
 -- units that were on make no switch
 none-new : (before x : ℕ) → Subset x before → switches before x ≡ 0
@@ -29,4 +20,4 @@ unfolding total laterTotal
 total-later d [] [] b f = refl
 total-later d [] (x ∷ xs) b f = absurd f
 total-later d (s ∷ ss) [] b f = absurd f
-total-later d (s ∷ ss) (x ∷ xs) b f = omega (arith, none-new (2 ^ d - 1) x (among-all d x (subset-below d x (s .upper) (f .0 .within) (b .0))))
+total-later d (s ∷ ss) (x ∷ xs) b f = omega (arith, none-new (2 ^ d - 1) x (subset-full d x (subset-below d x (s .upper) (f .0 .within) (b .0))))

@@ -17,7 +17,7 @@ use Rattle.units.specs.declared.Sizes.the-variants.{Between}
 use Rattle.units.proofs.Limits.{some-feasible, sizes-exact, sizes-ordered, some-sizes}
 use Rattle.plans.specs.declared.Limits.{Limits}
 use Rattle.plans.specs.Rows.{stepAt}
-use Rattle.plans.specs.Switch.{Allows, sizesOf, FeasiblePlan, total}
+use Rattle.plans.specs.Switch.{Allows, sizesOf, FeasiblePlan, total, laterTotal}
 use Rattle.plans.proofs.Laid.{feasible-at}
 use Rattle.format.specs.declared.Step.{Step}
 use Rattle.format.specs.Agreement.{Agree, AgreeButStart, untagged, readUntagged}
@@ -46,7 +46,7 @@ use Rattle.promises.proofs.Exactly.{exact, no-first}
 use Rattle.promises.proofs.Likeness.{alike-reply, alike-list, alike-plan, alike-chart, alike-verdict, alike-listing, alike-sizes}
 use Rattle.promises.proofs.Plans.{plan-fewest, plan-length-on, over-bound, in-bound, plan-open, plan-given}
 use Rattle.promises.proofs.Read.{satisfiable, passed}
-use Rattle.promises.proofs.Restarts.{restarted, total-restarted, no-switches}
+use Rattle.promises.proofs.Restarts.{restarted, total-restarted}
 use Rattle.promises.proofs.Verdicts.{verdict-given, accepts-exactly, turned-down}
 use Rattle.promises.proofs.Writes.{Limited, limited, write-numbers}
 
@@ -226,15 +226,18 @@ the-walk-ends s r more = chain-is-long-enough s r more
 pub first-loading-left-out : (s t plan on off : List ℕ) → Passes s → AgreeButStart s t → startOf t ≡ 2 ^ unitsOf s - 1
     → length (stepsOf s) ≤ length plan → length (stepsOf s) ≤ length on → length (stepsOf s) ≤ length off
     → FewestLater s t plan on off (total (startOf t) (supportOn t))
+unfolding laterTotal
 first-loading-left-out s t plan on off ok g all plan-room on-room off-room =
     let r = restarted s t ok g all in
     let later = total-restarted s t ok g all in
     let best = demand-3 t plan on off (r .passes) (omega (arith, r .many)) (omega (arith, r .many)) (omega (arith, r .many)) in
     let feasible = subst (λ (ss : List Limits). FeasiblePlan ss (supportOn t)) (r .limits) (best .feasible) in
+    let fewest : (q : List ℕ) → FeasiblePlan (limitsOn s) q → total (startOf t) (supportOn t) ≤ laterTotal q =
+    λ q f. omega (arith, best .fewest q (subst (λ (ss : List Limits). FeasiblePlan ss q) (sym (r .limits)) f), later q f) in
     record {
       some = (supportOn t, (feasible, sym (later (supportOn t) feasible)));
-      fewest = λ q f. omega (arith, best .fewest q (subst (λ (ss : List Limits). FeasiblePlan ss q) (sym (r .limits)) f), later q f);
-      noStep = λ none. no-switches t (r .limits ∙ ap (map limitsOf) none);
+      fewest = fewest;
+      noStep = λ none. omega (arith, fewest [] (subst (λ (xs : List Step). FeasiblePlan (map limitsOf xs) []) (sym none) tt));
       planOver = λ h i. best .planOver (omega (arith, r .bound)) i .0;
       chartOver = λ h i. best .chartOver (omega (arith, r .bound)) i .0;
       planWithin = λ h i. best .planWithin (omega (arith, r .bound)) i .0;

@@ -1,27 +1,23 @@
--- A sheet that passes the checks, and one that agrees with it but for the start set, which holds all of its units. The second passes the checks too, since the one
--- cause that looks at the start set holds of neither, and it has the same bound and the same steps but for tags (`restarted`). From its start set, loading
--- the first step makes no switch (`total-restarted`).
+-- Two sheets that agree but for the start set: s passes the checks, and the start set of t holds all units. So t passes the checks too, since the one cause that
+-- looks at the start set holds of neither, and it has the bound and, but for tags, the steps of s (`restarted`). From the start set of t, loading the first step
+-- makes no switch (`total-restarted`).
 use mathlib.Core.Path.{_≡_, sym, ap, ap₂, _∙_}
 use mathlib.Core.Bool.{false}
-use mathlib.Core.List.{List, [], map}
-use Prim.Native.Nat.{ℕ, _-_, _^_, _<_}
+use mathlib.Core.List.{List, map}
+use Prim.Native.Nat.{ℕ, _-_, _^_}
 use native.Mathlib.Omega.{arith}
 use lib.ListN.{length}
 use lib.Pow.{pow-pos}
 use borrow.Author.Tests.{lt-leb}
 use Rattle.units.specs.Sets.{hasUnitFrom}
-use Rattle.plans.specs.declared.Limits.{Limits}
-use Rattle.plans.specs.Support.{supportFrom, findSupport}
 use Rattle.plans.specs.Switch.{FeasiblePlan, total, laterTotal}
 use Rattle.plans.proofs.Loading.{total-later}
 use Rattle.format.specs.Agreement.{AgreeButStart, untagged}
-use Rattle.format.specs.Answer.{Given}
-use Rattle.format.specs.Format.{limitsOf, unitsAt, unitsOf, boundOf, startOf}
+use Rattle.format.specs.Format.{unitsAt, unitsOf, boundOf, startOf}
 use Rattle.format.specs.Reading.{stepsOf, readCauses}
-use Rattle.format.proofs.Agreements.{saidFrom, same-said}
-use Rattle.format.proofs.Answers.{given-same, none-first, none-holds, unless-given}
+use Rattle.format.proofs.Agreements.{same-but-start}
+use Rattle.format.proofs.Answers.{given-same, given-passes, none-holds, unless-given}
 use Rattle.promises.specs.Common.{limitsOn}
-use Rattle.promises.specs.Plan.{supportOn}
 use Rattle.promises.specs.Statements.{Passes}
 use Rattle.promises.proofs.Likeness.{untagged-many, untagged-limits}
 use Rattle.promises.proofs.Read.{passed, was-opened, uppers-below}
@@ -31,6 +27,7 @@ none-beyond : (d : ℕ) → hasUnitFrom (2 ^ d - 1) d ≡ false
 unfolding hasUnitFrom
 none-beyond d = lt-leb (2 ^ d) (2 ^ d - 1) (omega (arith, pow-pos d))
 
+-- t passes the checks, and has this in common with s
 pub record Restarted (s t : List ℕ) : Type 0 where
   pub passes : Passes t
   pub bound : boundOf t ≡ boundOf s
@@ -42,11 +39,11 @@ module _ (s t : List ℕ) (ok : Passes s) (g : AgreeButStart s t) (all : startOf
   restarted =
       let units : unitsOf s ≡ unitsOf t = g .headers unitsAt (omega arith) in
       let own = was-opened s (passed s ok) .sound .own-start ∙ sym (ap₂ hasUnitFrom all (sym units) ∙ none-beyond (unitsOf s)) in
-      let given = sym (same-said (omega arith) s t g own 0) ∙ none-holds (readCauses s) _ ok in
+      let given = sym (same-but-start (omega arith) s t g own 0) ∙ none-holds (readCauses s) _ ok in
       let same = given-same (unless-given (readCauses t) _ given) in
       let steps : map untagged (stepsOf t) ≡ map untagged (stepsOf s) = λ i. same i .steps in
       record {
-        passes = none-first (readCauses t) _ given;
+        passes = given-passes (readCauses t) _ given;
         bound = λ i. same i .bound;
         many = untagged-many (stepsOf t) (stepsOf s) steps;
         limits = untagged-limits (stepsOf t) (stepsOf s) steps;
@@ -54,8 +51,3 @@ module _ (s t : List ℕ) (ok : Passes s) (g : AgreeButStart s t) (all : startOf
 
   pub total-restarted : (p : List ℕ) → FeasiblePlan (limitsOn s) p → total (startOf t) p ≡ laterTotal p
   total-restarted p f = ap (λ (x : ℕ). total x p) all ∙ total-later (unitsOf s) (limitsOn s) p (uppers-below s (passed s ok)) f
-
--- without a step the plan handed out makes no switch
-pub no-switches : (s : List ℕ) → limitsOn s ≡ [] → total (startOf s) (supportOn s) ≡ 0
-unfolding supportOn findSupport supportFrom total
-no-switches s e = ap (λ (ss : List Limits). total (startOf s) (findSupport (startOf s) ss)) e

@@ -160,8 +160,8 @@ sizings =
     ∷ sizes (justSome 255) (114 ∷ 101 ∷ 102 ∷ 117 ∷ 115 ∷ 101 ∷ 100 ∷ 32 ∷ 55 ∷ 32 ∷ 49 ∷ 10 ∷ [])
     ∷ []
 
--- The loading of the first step left out: Four runs with all units on at the start. Of the plan's switches only that of step 3 is left, and a bound of 0 is below
--- it. A sheet without a step has none.
+-- Four runs with all units on at the start, so that loading the first step makes no switch: the plan's only switch is in step 3, and with a bound of 0 plan and
+-- chart are refused for that one. Without a step there is none.
 unfoldable pub loadings : List Example
 loadings =
     plan (fourRuns 3 7) nines (fullReply 1 0) (3 ∷ 3 ∷ 5 ∷ 5 ∷ 9 ∷ [])

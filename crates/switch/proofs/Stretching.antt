@@ -7,13 +7,12 @@ use mathlib.Core.Path.{_≡_, refl, sym, ap, _∙_}
 use mathlib.Core.Bool.{Bool, true, false, _&&_, and-eq-true-iff}
 use mathlib.Core.List.{List, [], _∷_, _++_}
 use Prim.Native.Nat.{ℕ, zero, suc, _+_, _-_, _^_, _≤_, _<_, min, max}
-use native.Mathlib.Decide.{decLt}
 use native.Mathlib.Omega.{arith}
 use borrow.Author.Tests.{eqb-true}
 use lib.Dec.{eqb}
 use lib.ListN.{length, length-append}
-use Rattle.units.specs.Sets.{all, bit, union, intersection, Subset, size}
-use Rattle.units.proofs.Sets.{bit-above, bit-difference, bit-empty, bit-full, bit-intersection, bit-le, bit-union, set-ext, size-empty, size-union, subset-below, union-assoc, union-empty-left}
+use Rattle.units.specs.Sets.{all, bit, union, intersection, size}
+use Rattle.units.proofs.Sets.{bit-difference, bit-empty, bit-intersection, bit-le, bit-union, set-ext, size-empty, size-union, subset-below, subset-full, union-assoc, union-empty-left}
 use Rattle.plans.specs.Support.{ranksBefore, taken}
 use Rattle.plans.specs.declared.Limits.{Limits}
 use Rattle.switch.specs.Groups.{undecided, required, forbidden, group}
@@ -23,21 +22,14 @@ use Rattle.switch.proofs.Picking.{group-bits, group-apart, group-room, 
 
 -- ---- what no step decides
 
-within-all : (rest : ℕ) → rest < 2 ^ 64 → Subset rest all
-within-all rest h u = go (decLt u 64)
-  where
-    go : Dec (u < 64) → bit rest u ≤ bit all u
-    go (yes l) = omega (arith, bit-le rest u, bit-full 64 u l)
-    go (no l) = omega (arith, bit-above 64 rest u h (omega arith))
-
 none-decided : (last : Bool) (rest : ℕ) → rest < 2 ^ 64 → group last 0 all rest ≡ 0
-none-decided true rest h = set-ext (forbidden all rest) 0 (λ u. omega (arith, bit-difference rest all u, within-all rest h u, bit-empty u))
+none-decided true rest h = set-ext (forbidden all rest) 0 (λ u. omega (arith, bit-difference rest all u, subset-full 64 rest h u, bit-empty u))
 none-decided false rest h = set-ext (required 0 all rest) 0 (λ u. omega (arith, bit-intersection (intersection rest all) 0 u, bit-empty u))
 
 all-undecided : (rest : ℕ) → rest < 2 ^ 64 → undecided 0 all rest ≡ rest
 all-undecided rest h =
     set-ext (undecided 0 all rest) rest
-    (λ u. omega (arith, bit-difference (intersection rest all) 0 u, bit-intersection rest all u, within-all rest h u, bit-empty u))
+    (λ u. omega (arith, bit-difference (intersection rest all) 0 u, bit-intersection rest all u, subset-full 64 rest h u, bit-empty u))
 
 -- ---- the sets of a step and those of the steps after it
 

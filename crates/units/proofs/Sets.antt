@@ -405,6 +405,10 @@ bit-full (suc k) zero l = omega (arith, bit-zero (2 ^ suc k - 1), pow-suc 2 k, p
 bit-full (suc k) (suc u) l =
     bit-suc (2 ^ suc k - 1) u ∙ ap (λ (x : ℕ). bit x u) (omega (arith, pow-suc 2 k, pow-pos k)) ∙ bit-full k u (omega arith)
 
+-- and each set below 2 ^ k lies within it
+pub subset-full : (k s : ℕ) → s < 2 ^ k → Subset s (2 ^ k - 1)
+subset-full k s h u = ⊎-elim (λ e. omega (arith, e)) (λ e. omega (arith, e, bit-full k u (unit-below k s u h e))) (bit-cases s u)
+
 -- the test that a set has a unit from d up holds exactly if there is one
 pub some-unit-from : (s d : ℕ) → hasUnitFrom s d ≡ true ↔ ((u : ℕ) × ((d ≤ u) × (bit s u ≡ 1)))
 unfolding hasUnitFrom bit
