@@ -15,6 +15,7 @@ none-new : (before x : ℕ) → Subset x before → switches before x ≡ 0
 unfolding switches
 none-new before x h = ap size (set-ext (difference x before) 0 (λ u. omega (arith, bit-difference x before u, h u, bit-empty u))) ∙ size-empty
 
+-- so the total of a feasible plan, counted from all units below d, is the one from its second step on
 pub total-later : (d : ℕ) (ss : List Limits) (p : List ℕ) → Below d ss → FeasiblePlan ss p → total (2 ^ d - 1) p ≡ laterTotal p
 unfolding total laterTotal
 total-later d [] [] b f = refl
