@@ -21,7 +21,7 @@
 //!
 //! Some papers leave out the loading of the first step. With all units in the start set, the total of [`plan`] and [`chart`], or the count
 //! that comes with [`Refusal::Bound`], is what those papers count: the least that any feasible plan has from its second step on, or 0 if
-//! there is no step. For the steps of the [example](#example) at the end of this page it is 1:
+//! there is no step. For the steps of the [example](#example) below it is 1:
 //!
 //! ```
 //! # let steps = [0b001, 0b010, 0b100, 0b001].map(|lower| warm::Step::new(lower, 0b111, 0, 2, 0));
