@@ -7,8 +7,8 @@ use mathlib.Core.List.{List, [], _∷_, List·Memᴰ, List·Memᴰ·head, List·
 use Prim.Native.Nat.{ℕ, zero, suc, _≤_, _<_}
 use native.Mathlib.Decide.{ℕ-discrete}
 use native.Mathlib.Omega.{arith}
-use Rattle.units.specs.Sets.{bit, Subset, insert, remove, size}
-use Rattle.units.proofs.Sets.{below-own-power, bit-empty, bit-le, bit-cases, bit-insert, bit-insert-other, bit-remove, bit-remove-other, insert-subset, remove-subset, set-ext, size-empty, size-insert, size-remove, unit-below, unit-outside, other-unit, units-named, named-units}
+use Rattle.units.specs.Sets.{bit, Subset, insert, remove, size, Leads}
+use Rattle.units.proofs.Sets.{below-own-power, bit-empty, bit-le, bit-cases, bit-insert, bit-insert-other, bit-remove, bit-remove-other, bit-le-size, insert-subset, remove-subset, set-ext, size-empty, size-insert, size-remove, unit-below, unit-outside, other-unit, units-named, named-units}
 use Rattle.plans.specs.Support.{members, firstIn, taken}
 use Rattle.plans.proofs.Orders.{Ordered, asymmetric, other-way, not-before}
 
@@ -42,7 +42,7 @@ module _ {before : ℕ → ℕ → Bool} (o : Ordered before) where
       }
 
   -- and the one that it picks of the units of a set is the first of these
-  first-of-set : (c : ℕ) → 0 < size c → Foremost before (λ x. bit c x ≡ 1) (firstIn before (members c))
+  pub first-of-set : (c : ℕ) → 0 < size c → Foremost before (λ x. bit c x ≡ 1) (firstIn before (members c))
   first-of-set c h = go (members c) refl
     where
       listed : (u : ℕ) → bit c u ≡ 1 → List·Memᴰ u (members c)
@@ -54,8 +54,22 @@ module _ {before : ℕ → ℕ → Bool} (o : Ordered before) where
           let f = first-in u us in
           record { member = (units-named c c (firstIn before (u ∷ us)) (rw e (f .member))) .1; least = λ w b. f .least w (rw e at (listed w b)) }
 
+  -- so a unit of a set that none goes before is the one that it picks
+  pub first-leads : (c u : ℕ) → Leads (λ v w. before v w ≡ true) c u → u ≡ firstIn before (members c)
+  first-leads c u l = go (ℕ-discrete u first)
+    where
+      first : ℕ
+      first = firstIn before (members c)
+
+      f : Foremost before (λ x. bit c x ≡ 1) first
+      f = first-of-set c (omega (arith, bit-le-size c u, l .has))
+
+      go : Dec (u ≡ first) → u ≡ first
+      go (yes e) = e
+      go (no n) = absurd (omega (arith, f .member, l .first first (other-way o first u (f .least u (l .has)) (λ e. n (sym e)))))
+
   -- the first unit of a set and the first k of the rest are the first k + 1
-  pub one-more : (k c u g : ℕ) → Foremost before (λ x. bit c x ≡ 1) u → Chosen before k (remove c u) g → Chosen before (suc k) c (insert g u)
+  one-more : (k c u g : ℕ) → Foremost before (λ x. bit c x ≡ 1) u → Chosen before k (remove c u) g → Chosen before (suc k) c (insert g u)
   one-more k c u g f r = record {
     inside = insert-subset g c u (λ v. omega (arith, r .inside v, remove-subset c u v)) (f .member);
     counted = omega (arith, size-insert g u lacks, r .counted);

@@ -1,4 +1,4 @@
--- `fewest` is the total of each feasible plan that no other undercuts (`fewest-of`), and so that of the plan that FindSupport hands out
+-- `fewest` is the total of each feasible plan that no other undercuts (`fewest-of`), and so that of FindSupport's plan, whatever orders break its ties
 -- (`support-fewest`).
 use mathlib.Core.Path.{_≡_, refl, sym, ap}
 use mathlib.Core.Logic.{⊎-elim, _↔_}
@@ -9,7 +9,7 @@ use native.Mathlib.Omega.{arith}
 use lib.ListN.{length}
 use Rattle.plans.specs.declared.Limits.{Limits}
 use Rattle.plans.specs.Switch.{Allows, Throughout, FeasiblePlan, total, Satisfiable}
-use Rattle.plans.specs.Support.{supportFrom, findSupport}
+use Rattle.plans.specs.Support.{Ordered, supportFrom, findSupportBy, findSupport}
 use Rattle.plans.specs.Plans.{allows, Below, plansOf, leastOf, fewest}
 use Rattle.plans.proofs.AllPlans.{Low, below-low, allows-exactly, listed-feasible, feasible-listed}
 use Rattle.plans.proofs.Greedy.{plan-greedy}
@@ -41,21 +41,22 @@ fewest-of test A exact d start ss p b f best =
     least-of (total start p) (map (total start) (plansOf test d ss)) (Memᴰ·map (total start) (feasible-listed test A exact d ss p b f))
     (λ z m. let r = Memᴰ·of-map (total start) (plansOf test d ss) m in omega (arith, best (r .0) (listed-feasible test A exact d ss (r .0) (r .1)), r .2))
 
--- The plan that FindSupport hands out is feasible and makes the fewest switches, which no feasible plan undercuts.
-pub support-fewest : (d start : ℕ) (ss : List Limits) → Below d ss → Satisfiable ss
-    → FeasiblePlan ss (findSupport start ss)
-    × ((total start (findSupport start ss) ≡ fewest allows d start ss) × ((q : List ℕ) → FeasiblePlan ss q → fewest allows d start ss ≤ total start q))
-support-fewest d start ss b f =
-    let best = optimal start ss (findSupport start ss) (plan-greedy start ss f) in
-    let e = fewest-of allows Allows allows-exactly d start ss (findSupport start ss) (below-low d ss b) (best .0) (best .1) in
+-- FindSupport's plan is feasible and makes the fewest switches, which no feasible plan undercuts.
+pub support-fewest : {ties : ℕ → ℕ → ℕ → Bool} → ((i : ℕ) → Ordered (ties i)) → (d start : ℕ) (ss : List Limits) → Below d ss → Satisfiable ss
+    → FeasiblePlan ss (findSupportBy ties start ss)
+    × ((total start (findSupportBy ties start ss) ≡ fewest allows d start ss) × ((q : List ℕ) → FeasiblePlan ss q → fewest allows d start ss ≤ total start q))
+support-fewest {ties} o d start ss b f =
+    let plan = findSupportBy ties start ss in
+    let best = optimal start ss plan (plan-greedy o start ss f) in
+    let e = fewest-of allows Allows allows-exactly d start ss plan (below-low d ss b) (best .0) (best .1) in
     (best .0, (sym e, λ q g. omega (arith, best .1 q g)))
 
 -- it has a set for each step
-support-from-length : (n i before : ℕ) (ss : List Limits) → length (supportFrom n i before ss) ≡ length ss
+support-from-length : (ties : ℕ → ℕ → ℕ → Bool) (n i before : ℕ) (ss : List Limits) → length (supportFrom ties n i before ss) ≡ length ss
 unfolding supportFrom
-support-from-length n i before [] = refl
-support-from-length n i before (s ∷ ss) = ap suc (support-from-length n (i + 1) _ ss)
+support-from-length ties n i before [] = refl
+support-from-length ties n i before (s ∷ ss) = ap suc (support-from-length ties n (i + 1) _ ss)
 
 pub support-length : (start : ℕ) (ss : List Limits) → length (findSupport start ss) ≡ length ss
-unfolding findSupport
-support-length start ss = support-from-length (length ss) 1 start ss
+unfolding findSupportBy
+support-length start ss = support-from-length _ (length ss) 1 start ss

@@ -1,5 +1,5 @@
 -- The set that FindSupport takes in a step is greedy by the ranking (`support-in`); so it is greedy with the steps in view, for every ranking that
--- fits them (`support-greedy`), and so is the plan (`plan-greedy`).
+-- fits them (`support-greedy`), and so is the plan, whatever orders break its ties (`plan-greedy`).
 use mathlib.Core.Path.{_≡_, refl}
 use mathlib.Core.Bool.{Bool, true}
 use mathlib.Core.List.{List, [], _∷_}
@@ -11,7 +11,7 @@ use Rattle.units.proofs.Limits.{some-feasible}
 use Rattle.units.proofs.Sets.{bit-le, bit-union, bit-intersection, bit-difference, bit-le-size, size-mono, size-difference, size-difference-le, size-union}
 use Rattle.plans.specs.declared.Limits.{Limits}
 use Rattle.plans.specs.Switch.{Satisfiable, Allows}
-use Rattle.plans.specs.Support.{taken, ranksBefore, supportSet, supportFrom, findSupport}
+use Rattle.plans.specs.Support.{taken, ranksBy, supportSet, supportFrom, findSupportBy}
 use Rattle.plans.proofs.Chosen.{Chosen, taken-chosen}
 use Rattle.plans.proofs.Orders.{Ordered, mirror-ordered}
 use Rattle.plans.proofs.Ranks.{Refines, ranks-refines}
@@ -127,18 +127,20 @@ module _ (ranks : ℕ → ℕ → Bool) (s : Limits) (before : ℕ) where
 
 -- ---- the plan
 
--- then the sets of the steps from i on are greedy
-pub support-from-greedy : (n i before : ℕ) (ss : List Limits) → i + length ss ≡ n + 1 → Satisfiable ss
-    → GreedyPlan before ss (supportFrom n i before ss)
-unfolding GreedyPlan supportFrom
-support-from-greedy n i before [] h f = tt
-support-from-greedy n i before (s ∷ ss) h f =
-    let x = (some-feasible (s .lower) (s .upper) (s .least) (s .greatest)) .0 (f .0) in (
-      support-greedy (ranksBefore n i (s ∷ ss)) s before ss (ranks-refines n i (s ∷ ss) h) (x .0) (x .1),
-      support-from-greedy n (i + 1) _ ss (omega arith) (f .1),
-    )
+-- whatever orders break ties
+module _ {ties : ℕ → ℕ → ℕ → Bool} (o : (i : ℕ) → Ordered (ties i)) where
+  -- the sets of the steps from i on are greedy
+  support-from-greedy : (n i before : ℕ) (ss : List Limits) → i + length ss ≡ n + 1 → Satisfiable ss
+      → GreedyPlan before ss (supportFrom ties n i before ss)
+  unfolding GreedyPlan supportFrom
+  support-from-greedy n i before [] h f = tt
+  support-from-greedy n i before (s ∷ ss) h f =
+      let x = (some-feasible (s .lower) (s .upper) (s .least) (s .greatest)) .0 (f .0) in (
+        support-greedy (ranksBy (ties i) n i (s ∷ ss)) s before ss (ranks-refines (o i) n i (s ∷ ss) h) (x .0) (x .1),
+        support-from-greedy n (i + 1) _ ss (omega arith) (f .1),
+      )
 
--- and so is the plan
-pub plan-greedy : (start : ℕ) (ss : List Limits) → Satisfiable ss → GreedyPlan start ss (findSupport start ss)
-unfolding findSupport
-plan-greedy start ss f = support-from-greedy (length ss) 1 start ss (omega arith) f
+  -- and so is the plan
+  pub plan-greedy : (start : ℕ) (ss : List Limits) → Satisfiable ss → GreedyPlan start ss (findSupportBy ties start ss)
+  unfolding findSupportBy
+  plan-greedy start ss f = support-from-greedy (length ss) 1 start ss (omega arith) f

@@ -1,4 +1,5 @@
--- Strict total orders of the units, as tests, and how one is made of others: from last to first, by a number of each unit, and by classes.
+-- Strict orders of the units, as tests, and how one is made of others: from last to first, by a number of each unit, and by classes. The house rule is one
+-- (`tie-ordered`).
 use mathlib.Core.Path.{_≡_, refl, sym, _∙_}
 use mathlib.Core.Logic.{_⊎_, inl, inr, ⊎-elim, ⊎-map}
 use mathlib.Core.Bool.{Bool, true, false, cond, _&&_, _||_, false≢true}
@@ -7,12 +8,8 @@ use native.Mathlib.Decide.{ℕ-discrete, decLt}
 use native.Mathlib.Omega.{arith}
 use lib.Dec.{ltb, eqb}
 use borrow.Author.Tests.{ltb-true, ltb-false, eqb-true, eqb-false, lt-ltb, le-ltb}
-
--- a strict total order
-pub record Ordered (before : ℕ → ℕ → Bool) : Type 0 where
-  pub irreflexive : (u : ℕ) → before u u ≡ false
-  pub transitive : (u v w : ℕ) → before u v ≡ true → before v w ≡ true → before u w ≡ true
-  pub total : (u v : ℕ) → (u ≡ v → ⊥) → (before u v ≡ true) ⊎ (before v u ≡ true)
+use Rattle.plans.specs.Support.{tieOrder}
+pub use Rattle.plans.specs.Support.{Ordered}
 
 -- ---- laws of every order
 
@@ -38,6 +35,20 @@ module _ {before : ℕ → ℕ → Bool} (o : Ordered before) where
       go r (yes e) = rw e at r
       go r (no n) = o .transitive u w v r (other-way w v q n)
 
+-- ---- the house rule
+
+-- The house rule is a strict order. All that is used here holds of the order of the numbers from either end.
+pub tie-ordered : Ordered tieOrder
+tie-ordered = record {
+  irreflexive = λ u. le-ltb u u (omega arith);
+  transitive = λ u v w p q. omega (arith, ltb-true, lt-ltb);
+  total = λ u v n. go u v n (tieOrder u v) refl;
+}
+  where
+    go : (u v : ℕ) → (u ≡ v → ⊥) → (t : Bool) → tieOrder u v ≡ t → (tieOrder u v ≡ true) ⊎ (tieOrder v u ≡ true)
+    go u v n true e = inl e
+    go u v n false e = inr (omega (arith, ltb-false, lt-ltb))
+
 -- ---- orders made of others
 
 -- from last to first
@@ -47,18 +58,6 @@ mirror-ordered o = record {
   transitive = λ u v w p q. o .transitive w v u q p;
   total = λ u v n. o .total v u (λ e. n (sym e));
 }
-
--- the order of the numbers
-pub ltb-ordered : Ordered ltb
-ltb-ordered = record {
-  irreflexive = λ u. le-ltb u u (omega arith);
-  transitive = λ u v w p q. omega (arith, ltb-true, lt-ltb);
-  total = λ u v n. go u v n (decLt u v);
-}
-  where
-    go : (u v : ℕ) → (u ≡ v → ⊥) → Dec (u < v) → (ltb u v ≡ true) ⊎ (ltb v u ≡ true)
-    go u v n (yes l) = inl (lt-ltb u v l)
-    go u v n (no g) = inr (omega (arith, lt-ltb))
 
 -- by a number of each unit, its key, and by another order where the keys are the same
 abbrev pub lexical : (ℕ → ℕ) → (ℕ → ℕ → Bool) → ℕ → ℕ → Bool

@@ -1,5 +1,5 @@
--- A unit that FindSupport ranks before another stands for it (`ranks-refines`). All that this uses of the ranking is that it is an order and that it
--- has the better units first, those preferred by need and ban alone (`better-refines`): ties may be broken in any way.
+-- A unit that FindSupport ranks before another stands for it (`ranks-refines`), whatever order breaks ties. All that this uses of the ranking is that it is an
+-- order and that it has the better units first, those preferred by need and ban alone (`better-refines`).
 use mathlib.Core.Path.{_≡_, refl, sym, _∙_}
 use mathlib.Core.Logic.{⊎-elim}
 use mathlib.Core.Bool.{Bool, true, false, cond, false≢true}
@@ -12,8 +12,8 @@ use borrow.Author.Tests.{lt-ltb, le-ltb, eq-eqb}
 use Rattle.units.specs.Sets.{bit, contains}
 use Rattle.units.proofs.Sets.{bit-cases}
 use Rattle.plans.specs.declared.Limits.{Limits}
-use Rattle.plans.specs.Support.{nextRequired, nextForbidden, requiredFirst, tieOrder, ranksBefore}
-use Rattle.plans.proofs.Orders.{Ordered, asymmetric, mirror-ordered, ltb-ordered, lexical-ordered, classed, classed-ordered, classed-wider}
+use Rattle.plans.specs.Support.{nextRequired, nextForbidden, requiredFirst, ranksBy}
+use Rattle.plans.proofs.Orders.{Ordered, asymmetric, mirror-ordered, lexical-ordered, classed, classed-ordered, classed-wider}
 use Rattle.plans.proofs.Stands.{StandsFor}
 
 -- ---- need and ban
@@ -71,21 +71,26 @@ module _ (n i : ℕ) (s : Limits) (ss : List Limits) (h : i + length (s ∷ ss) 
 
   -- Among units required now, and among units forbidden now, the tie order decides the ranking; units that the step leaves open are ranked as from the
   -- next step on.
-  pub required-tied : (u v : ℕ) → bit (s .lower) u ≡ 1 → bit (s .upper) u ≡ 1 → bit (s .lower) v ≡ 1 → bit (s .upper) v ≡ 1
-      → ranksBefore n i (s ∷ ss) u v ≡ tieOrder u v
-  unfolding ranksBefore requiredFirst nextRequired nextForbidden contains
-  required-tied u v a b c d =
+  pub required-tied : (tie : ℕ → ℕ → Bool) (u v : ℕ) → bit (s .lower) u ≡ 1 → bit (s .upper) u ≡ 1 → bit (s .lower) v ≡ 1 → bit (s .upper) v ≡ 1
+      → ranksBy tie n i (s ∷ ss) u v ≡ tie u v
+  unfolding ranksBy requiredFirst nextRequired nextForbidden contains
+  required-tied tie u v a b c d =
       rw (a, b, c, d, lt-ltb i (nextForbidden n (i + 1) ss u) ((past u) .1), lt-ltb i (nextForbidden n (i + 1) ss v) ((past v) .1), le-ltb i i (omega arith), eq-eqb i i refl)
 
-  pub forbidden-tied : (u v : ℕ) → bit (s .upper) u ≡ 0 → bit (s .upper) v ≡ 0 → ranksBefore n i (s ∷ ss) u v ≡ tieOrder u v
-  unfolding ranksBefore requiredFirst nextForbidden contains
-  forbidden-tied u v a b =
+  pub forbidden-tied : (tie : ℕ → ℕ → Bool) (u v : ℕ) → bit (s .upper) u ≡ 0 → bit (s .upper) v ≡ 0 → ranksBy tie n i (s ∷ ss) u v ≡ tie u v
+  unfolding ranksBy requiredFirst nextForbidden contains
+  forbidden-tied tie u v a b =
       rw (a, b, le-ltb (nextRequired n i (s ∷ ss) u) i (numbers-from n i (s ∷ ss) u h .0), le-ltb (nextRequired n i (s ∷ ss) v) i (numbers-from n i (s ∷ ss) v h .0), le-ltb i i (omega arith), eq-eqb i i refl)
 
-  pub open-ranked : (u v : ℕ) → bit (s .lower) u ≡ 0 → bit (s .upper) u ≡ 1 → bit (s .lower) v ≡ 0 → bit (s .upper) v ≡ 1
-      → ranksBefore n i (s ∷ ss) u v ≡ ranksBefore n (i + 1) ss u v
-  unfolding ranksBefore requiredFirst nextRequired nextForbidden contains
-  open-ranked u v a b c d = rw (a, b, c, d)
+  pub open-ranked : (tie : ℕ → ℕ → Bool) (u v : ℕ) → bit (s .lower) u ≡ 0 → bit (s .upper) u ≡ 1 → bit (s .lower) v ≡ 0 → bit (s .upper) v ≡ 1
+      → ranksBy tie n i (s ∷ ss) u v ≡ ranksBy tie n (i + 1) ss u v
+  unfolding ranksBy requiredFirst nextRequired nextForbidden contains
+  open-ranked tie u v a b c d = rw (a, b, c, d)
+
+-- after the last step only the tie order is left
+pub ended-tied : (tie : ℕ → ℕ → Bool) (n i u v : ℕ) → ranksBy tie n i [] u v ≡ tie u v
+unfolding ranksBy requiredFirst nextRequired nextForbidden
+ended-tied tie n i u v = rw (le-ltb (n + 2) (n + 1) (omega arith), le-ltb (n + 1) (n + 1) (omega arith), eq-eqb (n + 1) (n + 1) refl)
 
 -- A unit v stands for every unit w that is not better. If v is not required now and w is allowed now, then w is not required and v is allowed: else
 -- w would be better. So both are free now, and w is not better from the next step on.
@@ -115,17 +120,17 @@ better-refines n i ss {ranks} h o f = record { ordered = o; stands = λ v w r. g
     go v w r true b = absurd (false≢true (sym (asymmetric o v w r) ∙ f w v b))
 
 -- the ranking is an order: the keys are need in the one class, and ban from last to first in the other
-pub ranks-ordered : (n i : ℕ) (ss : List Limits) → Ordered (ranksBefore n i ss)
-unfolding ranksBefore
-ranks-ordered n i ss =
-    classed-ordered (requiredFirst n i ss) (lexical-ordered (nextRequired n i ss) ltb-ordered)
-    (mirror-ordered (lexical-ordered (nextForbidden n i ss) (mirror-ordered ltb-ordered)))
+pub ranks-ordered : {tie : ℕ → ℕ → Bool} → Ordered tie → (n i : ℕ) (ss : List Limits) → Ordered (ranksBy tie n i ss)
+unfolding ranksBy
+ranks-ordered o n i ss =
+    classed-ordered (requiredFirst n i ss) (lexical-ordered (nextRequired n i ss) o)
+    (mirror-ordered (lexical-ordered (nextForbidden n i ss) (mirror-ordered o)))
 
 -- it has the better units first
-pub better-ranks : (n i : ℕ) (ss : List Limits) (u v : ℕ) → better n i ss u v ≡ true → ranksBefore n i ss u v ≡ true
-unfolding better ranksBefore
-better-ranks n i ss u v h = classed-wider (requiredFirst n i ss u) (requiredFirst n i ss v) _ _ _ _ h
+pub better-ranks : (tie : ℕ → ℕ → Bool) (n i : ℕ) (ss : List Limits) (u v : ℕ) → better n i ss u v ≡ true → ranksBy tie n i ss u v ≡ true
+unfolding better ranksBy
+better-ranks tie n i ss u v h = classed-wider (requiredFirst n i ss u) (requiredFirst n i ss v) _ _ _ _ h
 
 -- and so it fits
-pub ranks-refines : (n i : ℕ) (ss : List Limits) → i + length ss ≡ n + 1 → Refines ss (ranksBefore n i ss)
-ranks-refines n i ss h = better-refines n i ss h (ranks-ordered n i ss) (better-ranks n i ss)
+pub ranks-refines : {tie : ℕ → ℕ → Bool} → Ordered tie → (n i : ℕ) (ss : List Limits) → i + length ss ≡ n + 1 → Refines ss (ranksBy tie n i ss)
+ranks-refines {tie} o n i ss h = better-refines n i ss h (ranks-ordered o n i ss) (better-ranks tie n i ss)

@@ -15,11 +15,11 @@ use Rattle.units.proofs.Sets.{bit-difference, bit-intersection, bit-union, size
 use Rattle.plans.specs.declared.Limits.{Limits}
 use Rattle.plans.specs.Plans.{allows, Below, select, below, prefixed, isFeasible, plansOf, plansWithin, canBeOn, canBeOff, canBe}
 use Rattle.plans.specs.Rows.{limits}
-use Rattle.plans.specs.Support.{nextRequired, nextForbidden, requiredFirst, ranksBefore, taken, supportSet, supportFrom, findSupport}
+use Rattle.plans.specs.Support.{nextRequired, nextForbidden, requiredFirst, tieOrder, ranksBy, taken, supportSet, supportFrom, findSupportBy, findSupport}
 use Rattle.plans.specs.Switch.{Allows, sizedBy, sized, Satisfiable}
 use Rattle.plans.proofs.AllPlans.{allows-exactly}
 use Rattle.plans.proofs.Chosen.{taken-chosen}
-use Rattle.plans.proofs.Orders.{Ordered, mirror-ordered}
+use Rattle.plans.proofs.Orders.{Ordered, mirror-ordered, tie-ordered}
 use Rattle.plans.proofs.Ranks.{ranks-ordered}
 
 -- ---- one step
@@ -142,21 +142,23 @@ unfolding nextForbidden
 sized-forbidden n i [] u = refl
 sized-forbidden n i (s ∷ ss) u = ap₂ (λ (l later : ℕ). cond (contains l u) later i) (sized-upper s) (sized-forbidden n (i + 1) ss u)
 
-sized-ranks : (n i : ℕ) (ss : List Limits) → ranksBefore n i (map sized ss) ≡ ranksBefore n i ss
-unfolding ranksBefore requiredFirst
-sized-ranks n i ss =
+sized-ranks : (tie : ℕ → ℕ → Bool) (n i : ℕ) (ss : List Limits) → ranksBy tie n i (map sized ss) ≡ ranksBy tie n i ss
+unfolding ranksBy requiredFirst
+sized-ranks tie n i ss =
     fun-ext (λ u. fun-ext (λ v. rw (sized-required n i ss u, sized-required n i ss v, sized-forbidden n i ss u, sized-forbidden n i ss v)))
 
--- and the plan that is handed out
-sized-from : (n i before : ℕ) (ss : List Limits) → supportFrom n i before (map sized ss) ≡ supportFrom n i before ss
+-- and FindSupport's plan, whatever orders break its ties
+sized-from : {ties : ℕ → ℕ → ℕ → Bool} → ((i : ℕ) → Ordered (ties i)) → (n i before : ℕ) (ss : List Limits)
+    → supportFrom ties n i before (map sized ss) ≡ supportFrom ties n i before ss
 unfolding supportFrom
-sized-from n i before [] = refl
-sized-from n i before (s ∷ ss) =
-    let x = supportSet (ranksBefore n i (s ∷ ss)) s before in
-    let same : supportSet (ranksBefore n i (map sized (s ∷ ss))) (sized s) before ≡ x =
-    ap (λ (r : ℕ → ℕ → Bool). supportSet r (sized s) before) (sized-ranks n i (s ∷ ss)) ∙ sized-set s (ranks-ordered n i (s ∷ ss)) before in
-    ap (λ (y : ℕ). y ∷ supportFrom n (i + 1) y (map sized ss)) same ∙ ap (λ rest. x ∷ rest) (sized-from n (i + 1) x ss)
+sized-from o n i before [] = refl
+sized-from {ties} o n i before (s ∷ ss) =
+    let x = supportSet (ranksBy (ties i) n i (s ∷ ss)) s before in
+    let same : supportSet (ranksBy (ties i) n i (map sized (s ∷ ss))) (sized s) before ≡ x =
+    ap (λ (r : ℕ → ℕ → Bool). supportSet r (sized s) before) (sized-ranks (ties i) n i (s ∷ ss)) ∙ sized-set s (ranks-ordered (o i) n i (s ∷ ss)) before in
+    ap (λ (y : ℕ). y ∷ supportFrom ties n (i + 1) y (map sized ss)) same ∙ ap (λ rest. x ∷ rest) (sized-from o n (i + 1) x ss)
 
 pub sized-support : (start : ℕ) (ss : List Limits) → findSupport start (map sized ss) ≡ findSupport start ss
-unfolding findSupport
-sized-support start ss = ap (λ (n : ℕ). supportFrom n 1 start (map sized ss)) (length-map ss sized) ∙ sized-from (length ss) 1 start ss
+unfolding findSupportBy
+sized-support start ss =
+    ap (λ (n : ℕ). supportFrom (λ i. tieOrder) n 1 start (map sized ss)) (length-map ss sized) ∙ sized-from (λ i. tie-ordered) (length ss) 1 start ss

@@ -1,6 +1,8 @@
--- FindSupport, the plan that is handed out. Steps have their numbers from 1 in the whole campaign of n steps; a list of steps is the rest of it
--- from the step with number i on.
+-- FindSupport, the plan that is handed out, and the order that breaks its ties. Steps have their numbers from 1 in the whole campaign of n steps; a list of steps
+-- is the rest of it from the step with number i on.
 use Prim.Native.Nat.{ℕ, zero, suc, _+_, _-_}
+use mathlib.Core.Path.{_≡_}
+use mathlib.Core.Logic.{_⊎_}
 use mathlib.Core.Bool.{Bool, true, false, cond, _||_, _&&_}
 use mathlib.Core.List.{List, [], _∷_}
 use lib.Dec.{ltb, eqb}
@@ -26,20 +28,33 @@ nextForbidden n i (s ∷ ss) u =
 unfoldable pub requiredFirst : ℕ → ℕ → List Limits → ℕ → Bool
 requiredFirst n i ss u = ltb (nextRequired n i ss u) (nextForbidden n i ss u)
 
--- which of two tied units goes first (on a tie, in docs/FORMAT.md): the lower number
+-- ---- the ranking
+
+-- a strict total order of the units, as a test: no unit goes before itself, one that goes before a second goes before all that the second goes before, and of
+-- two units one goes before the other
+pub record Ordered (before : ℕ → ℕ → Bool) : Type 0 where
+  pub irreflexive : (u : ℕ) → before u u ≡ false
+  pub transitive : (u v w : ℕ) → before u v ≡ true → before v w ≡ true → before u w ≡ true
+  pub total : (u v : ℕ) → (u ≡ v → ⊥) → (before u v ≡ true) ⊎ (before v u ≡ true)
+
+-- the house rule, which of two tied units goes first (on a tie, in docs/FORMAT.md): the higher number
 abbrev pub tieOrder : ℕ → ℕ → Bool
-tieOrder u v = ltb u v
+tieOrder u v = ltb v u
 
 -- Unit u ranks before unit v. Those required first go before the rest; among them, the one required earlier; among the rest, the one forbidden
--- later; on a tie, the tie order decides.
-unfoldable pub ranksBefore : ℕ → ℕ → List Limits → ℕ → ℕ → Bool
-ranksBefore n i ss u v =
+-- later; on a tie, the order `tie` decides.
+unfoldable pub ranksBy : (ℕ → ℕ → Bool) → ℕ → ℕ → List Limits → ℕ → ℕ → Bool
+ranksBy tie n i ss u v =
     cond (requiredFirst n i ss u)
     (cond (requiredFirst n i ss v) (earlier (nextRequired n i ss u) (nextRequired n i ss v)) true)
     (cond (requiredFirst n i ss v) false (earlier (nextForbidden n i ss v) (nextForbidden n i ss u)))
   where
     earlier : ℕ → ℕ → Bool
-    earlier a b = ltb a b || (eqb a b && tieOrder u v)
+    earlier a b = ltb a b || (eqb a b && tie u v)
+
+-- the ranking by the house rule
+abbrev pub ranksBefore : ℕ → ℕ → List Limits → ℕ → ℕ → Bool
+ranksBefore n i ss u v = ranksBy tieOrder n i ss u v
 
 -- ---- the first units of a set in an order
 
@@ -70,12 +85,17 @@ supportSet ranks s before =
     let kept = difference begun (taken (λ u v. ranks v u) (size begun - s .greatest) (difference begun (s .lower))) in
     union kept (taken ranks (s .least - size kept) (difference (s .upper) kept))
 
--- the sets of the steps from i on
-unfoldable pub supportFrom : ℕ → ℕ → ℕ → List Limits → List ℕ
-supportFrom n i before [] = []
-supportFrom n i before (s ∷ ss) =
-    let x = supportSet (ranksBefore n i (s ∷ ss)) s before in
-    x ∷ supportFrom n (i + 1) x ss
+-- the sets of the steps from i on, where the order `ties i` breaks the ties of step i
+unfoldable pub supportFrom : (ℕ → ℕ → ℕ → Bool) → ℕ → ℕ → ℕ → List Limits → List ℕ
+supportFrom ties n i before [] = []
+supportFrom ties n i before (s ∷ ss) =
+    let x = supportSet (ranksBy (ties i) n i (s ∷ ss)) s before in
+    x ∷ supportFrom ties n (i + 1) x ss
 
-unfoldable pub findSupport : ℕ → List Limits → List ℕ
-findSupport start ss = supportFrom (length ss) 1 start ss
+-- FindSupport with an order for the ties of each step
+unfoldable pub findSupportBy : (ℕ → ℕ → ℕ → Bool) → ℕ → List Limits → List ℕ
+findSupportBy ties start ss = supportFrom ties (length ss) 1 start ss
+
+-- with the house rule at every step: the plan that is handed out
+abbrev pub findSupport : ℕ → List Limits → List ℕ
+findSupport start ss = findSupportBy (λ i. tieOrder) start ss

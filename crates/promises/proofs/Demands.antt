@@ -5,7 +5,7 @@
 -- a line that says it). The table is the list of causes that stands in the statement: `stepsRefusals`, with `readCauses` in it, or `writeRefusals` are one line for each cause, in the order of the checks.
 use mathlib.Core.Path.{_≡_, refl, sym, ap, subst, _∙_}
 use mathlib.Core.Logic.{_↔_, _⊎_, inl, inr}
-use mathlib.Core.Bool.{true, false}
+use mathlib.Core.Bool.{Bool, true, false}
 use mathlib.Core.List.{List, [], _++_, map}
 use Prim.Native.Nat.{ℕ, suc, _+_, _-_, _^_, _≤_, _<_, min}
 use native.Mathlib.Omega.{arith}
@@ -17,8 +17,10 @@ use Rattle.units.specs.declared.Sizes.the-variants.{Between}
 use Rattle.units.proofs.Limits.{some-feasible, sizes-exact, sizes-ordered, some-sizes}
 use Rattle.plans.specs.declared.Limits.{Limits}
 use Rattle.plans.specs.Rows.{stepAt}
+use Rattle.plans.specs.Support.{Ordered, tieOrder}
 use Rattle.plans.specs.Switch.{Allows, sizesOf, FeasiblePlan, total, laterTotal}
 use Rattle.plans.proofs.Laid.{feasible-at}
+use Rattle.plans.proofs.Orders.{tie-ordered}
 use Rattle.format.specs.declared.Step.{Step}
 use Rattle.format.specs.Agreement.{Agree, AgreeButStart, untagged, readUntagged}
 use Rattle.format.specs.Answer.{Refused, Given, unless}
@@ -37,14 +39,14 @@ use Rattle.promises.specs.Plan.{supportOn, boundCauses, planRefusals, pl
 use Rattle.promises.specs.declared.Reply.{Reply}
 use Rattle.promises.specs.declared.Written.{Written}
 use Rattle.promises.specs.Listing.{refusedLine, planLines, listingRefusals, listed, listing, printed, listPlan, sizesLines, sizesListed, sizesListing, listSizes}
-use Rattle.promises.specs.Statements.{Exact, Passes, Meets, HandedOut, FewestAndExact, FewestLater}
+use Rattle.promises.specs.Statements.{Exact, Passes, Meets, HandedOut, supportBy, FewestAndExact, FewestLater}
 use Rattle.promises.specs.Steps.{stepsRefusals, stepsReply, stepsWritten, warmSteps}
 use Rattle.promises.specs.Verdict.{wordsCauses, verdictRefusals, accepts, judged, warmVerdict}
 use Rattle.promises.specs.Write.{writeRefusals, refusedWritten, fullWritten, wrote, warmWrite}
 use Rattle.promises.proofs.Charts.{words-length, words-cells, no-others}
 use Rattle.promises.proofs.Exactly.{exact, no-first}
 use Rattle.promises.proofs.Likeness.{alike-reply, alike-list, alike-plan, alike-chart, alike-verdict, alike-listing, alike-sizes}
-use Rattle.promises.proofs.Plans.{plan-fewest, plan-length-on, over-bound, in-bound, plan-open, plan-given}
+use Rattle.promises.proofs.Plans.{fewest-by, plan-fewest, plan-length-on, over-bound, in-bound, plan-open, plan-given}
 use Rattle.promises.proofs.Read.{satisfiable, passed}
 use Rattle.promises.proofs.Restarts.{restarted, total-restarted}
 use Rattle.promises.proofs.Verdicts.{verdict-given, accepts-exactly, turned-down}
@@ -169,15 +171,17 @@ demand-2-plan s out handed =
 
 -- ---- demand 3: any sheet that passes the checks, with outputs that have a place for every step
 
-pub demand-3 : (s plan on off : List ℕ) → Passes s
+-- Whatever strict order breaks the ties of each step, FindSupport's plan is feasible, and its total is the fewest, the number that plan and chart report.
+pub demand-3-any-ties : (ties : ℕ → ℕ → ℕ → Bool) → ((i : ℕ) → Ordered (ties i)) → (s plan on off : List ℕ) → Passes s
     → length (stepsOf s) ≤ length plan → length (stepsOf s) ≤ length on → length (stepsOf s) ≤ length off
-    → FewestAndExact s plan on off (total (startOf s) (supportOn s))
+    → FeasiblePlan (limitsOn s) (supportBy ties s) × FewestAndExact s plan on off (total (startOf s) (supportBy ties s))
 unfolding warmPlan planned warmChart charted campaignOf onWords offWords
-demand-3 s plan on off ok plan-room on-room off-room =
+demand-3-any-ties ties o s plan on off ok plan-room on-room off-room =
     let e = passed s ok in
+    let any = fewest-by s e o in
     let best = plan-fewest s e in
     let drawn = charted (startOf s) (onWords s) (offWords s) on off in
-    record {
+    let handed : FewestAndExact s plan on off (total (startOf s) (supportOn s)) = record {
       feasible = best .0;
       fewest = λ q f. omega (arith, best .1 .0, best .1 .1 q f);
       planOver = λ h. ap (planned (startOf s) plan) (sym (over-bound s e h ∙ plan-open s (length plan) e plan-room));
@@ -189,7 +193,15 @@ demand-3 s plan on off ok plan-room on-room off-room =
       onCells = λ i u l. words-cells s e i u l true;
       offCells = λ i u l. words-cells s e i u l false;
       noOthers = λ i u l k. (no-others s e i u l true k, no-others s e i u l false k);
-    }
+    } in
+    (any .0, subst (FewestAndExact s plan on off) (best .1 .0 ∙ sym (any .1 .0)) handed)
+
+-- so it is with the house rule at every step, by which the plan is handed out
+pub demand-3 : (s plan on off : List ℕ) → Passes s
+    → length (stepsOf s) ≤ length plan → length (stepsOf s) ≤ length on → length (stepsOf s) ≤ length off
+    → FewestAndExact s plan on off (total (startOf s) (supportOn s))
+unfolding supportOn
+demand-3 s plan on off ok plan-room on-room off-room = demand-3-any-ties (λ i. tieOrder) (λ i. tie-ordered) s plan on off ok plan-room on-room off-room .1
 
 -- what row 7 of the table tests: it holds of a step exactly if no set is feasible there
 pub a-feasible-set : (x : Step) → hasFeasible (x .lower) (x .upper) (x .least) (x .greatest) ≡ true

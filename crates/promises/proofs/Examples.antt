@@ -9,7 +9,7 @@ use Rattle.format.specs.Numbers.{byteAt, u16At, u32At, u64At, bytesOf}
 use Rattle.format.specs.Reading.{same, stepsCauses, readCauses, campaignOf}
 use Rattle.format.specs.Writing.{headerBytes, recordBytes, linkIn, recordsAfter, sheetOf}
 use Rattle.plans.specs.Plans.{select, below, allows, isFeasible, prefixed, plansOf, leastOf, fewest, plansWithin, joined, joinedAll, canBeOn, canBeOff}
-use Rattle.plans.specs.Support.{nextRequired, nextForbidden, requiredFirst, ranksBefore, firstIn, taken, supportSet, supportFrom, findSupport}
+use Rattle.plans.specs.Support.{nextRequired, nextForbidden, requiredFirst, ranksBy, firstIn, taken, supportSet, supportFrom, findSupportBy}
 use Rattle.plans.specs.Switch.{switches, total}
 use lib.Count.{ones, onesIn}
 use Rattle.promises.specs.Steps.{stepsRefusals, stepsReply, stepsWritten, warmSteps}
@@ -22,7 +22,7 @@ use Rattle.promises.specs.Listing.{refusedLine, sizesLine, sizesLines, s
 use Rattle.promises.specs.Examples.{All, benches, replies, choices, writings, sizings, loadings}
 
 pub examples-hold : All benches × (All replies × (All choices × (All writings × (All sizings × All loadings))))
-unfolding feasibleSizes hasFeasible bit union intersection difference contains insert remove isSubset size unitsBelow hasUnitFrom unless following chainOf isIn linkCauses stepOf nextOf byteAt u16At u32At u64At same stepsCauses readCauses campaignOf select below allows isFeasible prefixed plansOf leastOf fewest plansWithin joined joinedAll canBeOn canBeOff nextRequired nextForbidden requiredFirst ranksBefore firstIn taken supportSet supportFrom findSupport switches total stepsRefusals stepsReply stepsWritten warmSteps fewestOn supportOn planRefusals planned warmPlan onWords offWords charted warmChart verdictRefusals accepts judged warmVerdict writeRefusals wrote warmWrite bytesOf headerBytes recordBytes linkIn recordsAfter sheetOf decimalIn decimal refusedLine sizesLine sizesLines sizesListed sizesListing ones onesIn benches replies choices writings sizings loadings
+unfolding feasibleSizes hasFeasible bit union intersection difference contains insert remove isSubset size unitsBelow hasUnitFrom unless following chainOf isIn linkCauses stepOf nextOf byteAt u16At u32At u64At same stepsCauses readCauses campaignOf select below allows isFeasible prefixed plansOf leastOf fewest plansWithin joined joinedAll canBeOn canBeOff nextRequired nextForbidden requiredFirst ranksBy firstIn taken supportSet supportFrom findSupportBy switches total stepsRefusals stepsReply stepsWritten warmSteps fewestOn supportOn planRefusals planned warmPlan onWords offWords charted warmChart verdictRefusals accepts judged warmVerdict writeRefusals wrote warmWrite bytesOf headerBytes recordBytes linkIn recordsAfter sheetOf decimalIn decimal refusedLine sizesLine sizesLines sizesListed sizesListing ones onesIn benches replies choices writings sizings loadings
 examples-hold = (
   (refl, (refl, (refl, (refl, (refl, (refl, (refl, (refl, (refl, (refl, (refl, tt))))))))))),
   (

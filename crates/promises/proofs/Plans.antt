@@ -1,13 +1,16 @@
 -- Laws on the answer of `warm_plan`: what it is by what the reader says, by the output's places and by the bound. The total that is compared with the
 -- bound is FindSupport's, which no feasible plan undercuts, so that it is the fewest.
 use mathlib.Core.Path.{_≡_, sym, ap, _∙_}
+use mathlib.Core.Bool.{Bool}
 use mathlib.Core.List.{List, _++_}
 use Prim.Native.Nat.{ℕ, _≤_, _<_}
 use native.Mathlib.Omega.{arith}
 use lib.ListN.{length, length-map}
 use borrow.Author.Tests.{lt-ltb, le-ltb, ltb-false}
+use Rattle.plans.specs.Support.{Ordered}
 use Rattle.plans.specs.Switch.{FeasiblePlan, total}
 use Rattle.plans.proofs.Fewest.{support-fewest, support-length}
+use Rattle.plans.proofs.Orders.{tie-ordered}
 use Rattle.format.specs.declared.Summary.{Summary}
 use Rattle.format.specs.Answer.{Answer, Refused, Given, unless}
 use Rattle.format.specs.Format.{limitsOf, unitsOf, boundOf, startOf}
@@ -16,6 +19,7 @@ use Rattle.format.specs.Stages.{summaryOf, summaryRead}
 use Rattle.format.proofs.Answers.{refused-by, passed-by, none-left, unless-append, refused-whatever, passed-first, all-passed, unless-given}
 use Rattle.promises.specs.Common.{limitsOn, placesCauses}
 use Rattle.promises.specs.Plan.{fewestOn, supportOn, boundCauses, planRefusals, planAnswer}
+use Rattle.promises.specs.Statements.{supportBy}
 use Rattle.promises.proofs.Read.{satisfiable, uppers-below, was-read, short-output, long-output}
 
 -- ---- the plan
@@ -25,11 +29,17 @@ unfolding supportOn
 plan-length-on s = support-length (startOf s) (limitsOn s) ∙ length-map (stepsOf s) limitsOf
 
 module _ (s : List ℕ) {x : Summary} (e : summaryRead s ≡ Given x) where
-  -- the plan handed out is feasible, has the fewest switches, and no feasible plan has fewer
+  -- FindSupport's plan is feasible, has the fewest switches, and no feasible plan has fewer, whatever orders break its ties
+  pub fewest-by : {ties : ℕ → ℕ → ℕ → Bool} → ((i : ℕ) → Ordered (ties i)) → FeasiblePlan (limitsOn s) (supportBy ties s)
+      × ((total (startOf s) (supportBy ties s) ≡ fewestOn s) × ((q : List ℕ) → FeasiblePlan (limitsOn s) q → fewestOn s ≤ total (startOf s) q))
+  unfolding fewestOn
+  fewest-by o = support-fewest o (unitsOf s) (startOf s) (limitsOn s) (uppers-below s e) (satisfiable s e)
+
+  -- so it is with the plan that is handed out
   pub plan-fewest : FeasiblePlan (limitsOn s) (supportOn s)
       × ((total (startOf s) (supportOn s) ≡ fewestOn s) × ((q : List ℕ) → FeasiblePlan (limitsOn s) q → fewestOn s ≤ total (startOf s) q))
-  unfolding supportOn fewestOn
-  plan-fewest = support-fewest (unitsOf s) (startOf s) (limitsOn s) (uppers-below s e) (satisfiable s e)
+  unfolding supportOn
+  plan-fewest = fewest-by (λ i. tie-ordered)
 
   pub over-bound : boundOf s < total (startOf s) (supportOn s)
       → Refused 9 (total (startOf s) (supportOn s)) ≡ unless (boundCauses s) (Given (supportOn s))

@@ -84,7 +84,7 @@ benches =
     ∷ chart (fourRuns 3 0) nines nines (fullReply 3 0) (3 ∷ 3 ∷ 5 ∷ 5 ∷ 9 ∷ []) (6 ∷ 4 ∷ 2 ∷ 6 ∷ 9 ∷ [])
     ∷ plan (fourRuns 3 2) nines (fullReply 2 0) (3 ∷ 3 ∷ 5 ∷ 5 ∷ 9 ∷ [])
     ∷ plan noStep [] (fullReply 0 0) []
-    ∷ plan (justSome 1) (9 ∷ []) (fullReply 1 0) (1 ∷ [])
+    ∷ plan (justSome 1) (9 ∷ []) (fullReply 1 0) (2 ∷ [])
     ∷ steps (justSome 3) (nineStep ∷ []) (refusedSteps 7 1) (nineStep ∷ [])
     ∷ steps (oneRecord 1 1) (nineStep ∷ []) (refusedSteps 5 1) (nineStep ∷ [])
     ∷ steps (oneRecord 2 0) [] (refusedSteps 4 0) []
@@ -110,22 +110,22 @@ replies =
     (tagged 2 3 1 2 4294967295 ∷ tagged 1 7 0 2 67305985 ∷ nineStep ∷ [])
     ∷ []
 
--- Which plan it is, where several have the fewest switches. Both units wanted, in one step: the lower number joins, and stays; in two steps: the
--- earlier. One wanted: that one. None wanted, both banned in one step or never: the lower number; banned in two steps or one of them never: the
+-- Which plan it is, where several have the fewest switches. Both units wanted, in one step: the higher number joins, and stays; in two steps: the
+-- earlier. One wanted: that one. None wanted, both banned in one step or never: the higher number; banned in two steps or one of them never: the
 -- later. A unit banned before it is needed is not wanted, nor is one that is never needed. A unit needed in this very step never leaves.
 unfoldable pub choices : List Example
 choices =
-    plan (oneOfTwo 0 (asks 3 3 ∷ [])) (9 ∷ 9 ∷ []) (fullReply 2 0) (1 ∷ 3 ∷ [])
-    ∷ plan (oneOfTwo 3 (asks 3 3 ∷ [])) (9 ∷ 9 ∷ []) (fullReply 1 0) (1 ∷ 3 ∷ [])
-    ∷ plan (oneOfTwo 3 (asks 2 3 ∷ asks 3 3 ∷ [])) (9 ∷ 9 ∷ 9 ∷ []) (fullReply 1 0) (2 ∷ 2 ∷ 3 ∷ [])
-    ∷ plan (oneOfTwo 3 (asks 2 3 ∷ [])) (9 ∷ 9 ∷ []) (fullReply 0 0) (2 ∷ 2 ∷ [])
-    ∷ plan (oneOfTwo 0 (asks 0 0 ∷ [])) (9 ∷ 9 ∷ []) (fullReply 1 0) (1 ∷ 0 ∷ [])
-    ∷ plan (oneOfTwo 3 (asks 0 0 ∷ [])) (9 ∷ 9 ∷ []) (fullReply 0 0) (1 ∷ 0 ∷ [])
-    ∷ plan (oneOfTwo 0 []) (9 ∷ []) (fullReply 1 0) (1 ∷ [])
-    ∷ plan (oneOfTwo 3 []) (9 ∷ []) (fullReply 0 0) (1 ∷ [])
-    ∷ plan (oneOfTwo 3 (asks 0 2 ∷ asks 0 0 ∷ [])) (9 ∷ 9 ∷ 9 ∷ []) (fullReply 0 0) (2 ∷ 2 ∷ 0 ∷ [])
-    ∷ plan (oneOfTwo 3 (asks 0 2 ∷ [])) (9 ∷ 9 ∷ []) (fullReply 0 0) (2 ∷ 2 ∷ [])
-    ∷ plan (oneOfTwo 3 (asks 0 2 ∷ asks 1 3 ∷ [])) (9 ∷ 9 ∷ 9 ∷ []) (fullReply 1 0) (2 ∷ 2 ∷ 3 ∷ [])
+    plan (oneOfTwo 0 (asks 3 3 ∷ [])) (9 ∷ 9 ∷ []) (fullReply 2 0) (2 ∷ 3 ∷ [])
+    ∷ plan (oneOfTwo 3 (asks 3 3 ∷ [])) (9 ∷ 9 ∷ []) (fullReply 1 0) (2 ∷ 3 ∷ [])
+    ∷ plan (oneOfTwo 3 (asks 1 3 ∷ asks 3 3 ∷ [])) (9 ∷ 9 ∷ 9 ∷ []) (fullReply 1 0) (1 ∷ 1 ∷ 3 ∷ [])
+    ∷ plan (oneOfTwo 3 (asks 1 3 ∷ [])) (9 ∷ 9 ∷ []) (fullReply 0 0) (1 ∷ 1 ∷ [])
+    ∷ plan (oneOfTwo 0 (asks 0 0 ∷ [])) (9 ∷ 9 ∷ []) (fullReply 1 0) (2 ∷ 0 ∷ [])
+    ∷ plan (oneOfTwo 3 (asks 0 0 ∷ [])) (9 ∷ 9 ∷ []) (fullReply 0 0) (2 ∷ 0 ∷ [])
+    ∷ plan (oneOfTwo 0 []) (9 ∷ []) (fullReply 1 0) (2 ∷ [])
+    ∷ plan (oneOfTwo 3 []) (9 ∷ []) (fullReply 0 0) (2 ∷ [])
+    ∷ plan (oneOfTwo 3 (asks 0 1 ∷ asks 0 0 ∷ [])) (9 ∷ 9 ∷ 9 ∷ []) (fullReply 0 0) (1 ∷ 1 ∷ 0 ∷ [])
+    ∷ plan (oneOfTwo 3 (asks 0 1 ∷ [])) (9 ∷ 9 ∷ []) (fullReply 0 0) (1 ∷ 1 ∷ [])
+    ∷ plan (oneOfTwo 3 (asks 0 1 ∷ asks 2 3 ∷ [])) (9 ∷ 9 ∷ 9 ∷ []) (fullReply 1 0) (1 ∷ 1 ∷ 3 ∷ [])
     ∷ plan (sheetOf 3 1 6 (step 1 7 0 1 ∷ [])) (9 ∷ []) (fullReply 1 0) (1 ∷ [])
     ∷ []
 

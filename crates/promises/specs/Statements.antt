@@ -1,6 +1,7 @@
 -- How the demands are stated: see proofs/Demands.antt for the theorems.
 use Prim.Native.Nat.{ℕ, _≤_, _<_}
 use mathlib.Core.Path.{_≡_}
+use mathlib.Core.Bool.{Bool}
 use mathlib.Core.Logic.{_↔_, _⊎_}
 use mathlib.Core.List.{List, []}
 use lib.ListN.{length, getD, take}
@@ -8,6 +9,7 @@ use Rattle.units.specs.Sets.{bit}
 use Rattle.format.specs.Answer.{Cause, First}
 use Rattle.format.specs.Format.{unitsOf, boundOf, startOf}
 use Rattle.format.specs.Reading.{stepsOf, readCauses}
+use Rattle.plans.specs.Support.{findSupportBy}
 use Rattle.plans.specs.Switch.{FeasiblePlan, total, laterTotal}
 use Rattle.promises.specs.declared.Reply.{Reply}
 use Rattle.promises.specs.Common.{limitsOn, written, refusedReply, fullReply}
@@ -42,9 +44,13 @@ pub record HandedOut (s : List ℕ) (reply : Reply) (out : List ℕ) : Type 0 wh
 abbrev pub SomePlanHas : List ℕ → ℕ → ℕ → ℕ → Type 0
 SomePlanHas s i u v = (plan : List ℕ) × (Meets s plan × (bit (getD plan i 0) u ≡ v))
 
+-- FindSupport's plan with an order for the ties of each step; `supportOn` is that with the house rule at every step
+abbrev pub supportBy : (ℕ → ℕ → ℕ → Bool) → List ℕ → List ℕ
+supportBy ties s = findSupportBy ties (startOf s) (limitsOn s)
+
 -- Demand 3 on one sheet and lent outputs, where `best` is the total of FindSupport's plan.
 pub record FewestAndExact (s plan on off : List ℕ) (best : ℕ) : Type 0 where
-  -- that plan meets all set and number limits, and every other plan that meets them has at least as many switches
+  -- the plan that is handed out meets all set and number limits, and every plan that meets them has at least `best` switches
   pub feasible : FeasiblePlan (limitsOn s) (supportOn s)
   pub fewest : (other : List ℕ) → FeasiblePlan (limitsOn s) other → best ≤ total (startOf s) other
   -- plan and chart refuse the sheet for its bound if that number is above it, and the place is that number

@@ -8,21 +8,18 @@ use mathlib.Core.Logic.{_⊎_, inl, inr}
 use mathlib.Core.Bool.{Bool, true, false, not}
 use mathlib.Core.List.{List, [], _∷_}
 use Prim.Native.Nat.{ℕ, suc, _+_, _-_, _≤_, _<_, min}
-use native.Mathlib.Decide.{decLt}
 use native.Mathlib.Omega.{arith}
-use borrow.Author.Tests.{le-ltb}
-use lib.Dec.{ltb}
 use lib.ListN.{length}
-use Rattle.units.specs.Sets.{bit, union, intersection, difference, Subset, insert, remove, size}
+use Rattle.units.specs.Sets.{bit, union, intersection, difference, Subset, remove, size}
 use Rattle.units.proofs.Sets.{bit-le, bit-cases, bit-union, bit-intersection, bit-difference, set-ext, union-assoc, union-empty-right, difference-empty, difference-insert, difference-twice, size-mono, size-none, size-remove, size-difference, size-union}
 use Rattle.switch.specs.Groups.{undecided, required, forbidden, group}
-use Rattle.switch.specs.Toward.{toward, FirstByNumber}
+use Rattle.switch.specs.Toward.{toward}
 use Rattle.plans.specs.Rows.{limits}
 use Rattle.switch.specs.Looked.{Looked}
-use Rattle.plans.specs.Support.{ranksBefore, taken, tieOrder}
+use Rattle.plans.specs.Support.{tieOrder, ranksBefore, members, firstIn, taken}
 use Rattle.plans.specs.declared.Limits.{Limits}
-use Rattle.plans.proofs.Chosen.{Foremost, Chosen, one-more, taken-chosen, chosen-unique}
-use Rattle.plans.proofs.Orders.{Ordered, mirror-ordered, ltb-ordered}
+use Rattle.plans.proofs.Chosen.{Chosen, first-of-set, taken-chosen, chosen-unique}
+use Rattle.plans.proofs.Orders.{Ordered, mirror-ordered, tie-ordered}
 use Rattle.plans.proofs.Ranks.{required-better, allowed-better, required-tied, forbidden-tied, open-ranked, better-ranks, ranks-ordered}
 
 -- ---- a group of c that goes before the rest of it
@@ -84,18 +81,18 @@ pub toward-ordered : (last : Bool) {before : ℕ → ℕ → Bool} → Ordered b
 toward-ordered false o = o
 toward-ordered true o = mirror-ordered o
 
-pub tie-ordered : (last : Bool) → Ordered (toward last tieOrder)
-tie-ordered last = toward-ordered last ltb-ordered
+pub tie-toward : (last : Bool) → Ordered (toward last tieOrder)
+tie-toward last = toward-ordered last tie-ordered
 
 -- ---- the groups of a step
 
 module _ (n i : ℕ) (s : Limits) (ss : List Limits) (h : i + length (s ∷ ss) ≡ n + 1) where
   -- a unit that may be on ranks before one that may not, and one that must be on before one that need not
   allowed-first : (u v : ℕ) → bit (s .upper) u ≡ 1 → bit (s .upper) v ≡ 0 → ranksBefore n i (s ∷ ss) u v ≡ true
-  allowed-first u v p q = better-ranks n i (s ∷ ss) u v (allowed-better n i s ss h u v p q)
+  allowed-first u v p q = better-ranks tieOrder n i (s ∷ ss) u v (allowed-better n i s ss h u v p q)
 
   required-first : (u v : ℕ) → bit (s .lower) u ≡ 1 → bit (s .upper) u ≡ 1 → bit (s .lower) v ≡ 0 → ranksBefore n i (s ∷ ss) u v ≡ true
-  required-first u v p q r = better-ranks n i (s ∷ ss) u v (required-better n i s ss h u v p q r)
+  required-first u v p q r = better-ranks tieOrder n i (s ∷ ss) u v (required-better n i s ss h u v p q r)
 
 -- ---- the groups of the units of `rest`
 
@@ -148,9 +145,9 @@ module _ (n i : ℕ) (s : Limits) (ss : List Limits) (h : i + length (s ∷ ss) 
 
   first-tied : (last : Bool) (v w : ℕ) → bit (group last (s .lower) (s .upper) rest) v ≡ 1 → bit (group last (s .lower) (s .upper) rest) w ≡ 1
       → toward last (ranksBefore n i (s ∷ ss)) v w ≡ toward last tieOrder v w
-  first-tied true v w p q = forbidden-tied n i s ss h w v (omega (arith, all-bits w)) (omega (arith, all-bits v))
+  first-tied true v w p q = forbidden-tied n i s ss h tieOrder w v (omega (arith, all-bits w)) (omega (arith, all-bits v))
   first-tied false v w p q =
-      required-tied n i s ss h v w (omega (arith, all-bits v)) (omega (arith, all-bits v)) (omega (arith, all-bits w)) (omega (arith, all-bits w))
+      required-tied n i s ss h tieOrder v w (omega (arith, all-bits v)) (omega (arith, all-bits v)) (omega (arith, all-bits w)) (omega (arith, all-bits w))
 
   -- what is not in the first group
   others : Bool → ℕ
@@ -173,8 +170,8 @@ module _ (n i : ℕ) (s : Limits) (ss : List Limits) (h : i + length (s ∷ ss) 
 
   far-open : (last : Bool) (v w : ℕ) → bit far v ≡ 1 → bit far w ≡ 1 → toward last (ranksBefore n i (s ∷ ss)) v w ≡ toward last (ranksBefore n (i + 1) ss) v w
   unfolding far
-  far-open true v w p q = open-ranked n i s ss h w v (omega (arith, all-bits w)) (omega (arith, all-bits w)) (omega (arith, all-bits v)) (omega (arith, all-bits v))
-  far-open false v w p q = open-ranked n i s ss h v w (omega (arith, all-bits v)) (omega (arith, all-bits v)) (omega (arith, all-bits w)) (omega (arith, all-bits w))
+  far-open true v w p q = open-ranked n i s ss h tieOrder w v (omega (arith, all-bits w)) (omega (arith, all-bits w)) (omega (arith, all-bits v)) (omega (arith, all-bits v))
+  far-open false v w p q = open-ranked n i s ss h tieOrder v w (omega (arith, all-bits v)) (omega (arith, all-bits v)) (omega (arith, all-bits w)) (omega (arith, all-bits w))
 
   end-is : (last : Bool) → difference (others last) far ≡ group (not last) (s .lower) (s .upper) rest
   unfolding far others
@@ -188,19 +185,19 @@ module _ (n i : ℕ) (s : Limits) (ss : List Limits) (h : i + length (s ∷ ss) 
   end-tied : (last : Bool) (v w : ℕ) → bit (group (not last) (s .lower) (s .upper) rest) v ≡ 1 → bit (group (not last) (s .lower) (s .upper) rest) w ≡ 1
       → toward last (ranksBefore n i (s ∷ ss)) v w ≡ toward last tieOrder v w
   end-tied true v w p q =
-      required-tied n i s ss h w v (omega (arith, all-bits w)) (omega (arith, all-bits w)) (omega (arith, all-bits v)) (omega (arith, all-bits v))
-  end-tied false v w p q = forbidden-tied n i s ss h v w (omega (arith, all-bits v)) (omega (arith, all-bits w))
+      required-tied n i s ss h tieOrder w v (omega (arith, all-bits w)) (omega (arith, all-bits w)) (omega (arith, all-bits v)) (omega (arith, all-bits v))
+  end-tied false v w p q = forbidden-tied n i s ss h tieOrder v w (omega (arith, all-bits v)) (omega (arith, all-bits w))
 
   module _ (last : Bool) (k : ℕ) where
     ranked : Ordered (toward last (ranksBefore n i (s ∷ ss)))
-    ranked = toward-ordered last (ranks-ordered n i (s ∷ ss))
+    ranked = toward-ordered last (ranks-ordered tie-ordered n i (s ∷ ss))
 
     -- all are in the first group
     pub taken-first : k ≤ size (group last (s .lower) (s .upper) rest)
         → taken (toward last (ranksBefore n i (s ∷ ss))) k rest ≡ taken (toward last tieOrder) k (group last (s .lower) (s .upper) rest)
     taken-first l =
         taken-front ranked rest (group last (s .lower) (s .upper) rest) (group-within last (s .lower) (s .upper) rest) (first-front last) k l
-        ∙ taken-same ranked (tie-ordered last) k (group last (s .lower) (s .upper) rest) l (first-tied last)
+        ∙ taken-same ranked (tie-toward last) k (group last (s .lower) (s .upper) rest) l (first-tied last)
 
     module _ (l : size (group last (s .lower) (s .upper) rest) ≤ k) (m : k ≤ size rest) where
       past-first : taken (toward last (ranksBefore n i (s ∷ ss))) k rest
@@ -221,7 +218,7 @@ module _ (n i : ℕ) (s : Limits) (ss : List Limits) (h : i + length (s ∷ ss) 
           past-first
           ∙ ap (union (group last (s .lower) (s .upper) rest))
           (taken-front ranked (others last) far (far-part last) (far-front last) (k - size (group last (s .lower) (s .upper) rest)) p
-          ∙ taken-same ranked (toward-ordered last (ranks-ordered n (i + 1) ss)) (k - size (group last (s .lower) (s .upper) rest)) far p (far-open last))
+          ∙ taken-same ranked (toward-ordered last (ranks-ordered tie-ordered n (i + 1) ss)) (k - size (group last (s .lower) (s .upper) rest)) far p (far-open last))
 
       end-room : size (undecided (s .lower) (s .upper) rest) ≤ k - size (group last (s .lower) (s .upper) rest)
           → k - size (group last (s .lower) (s .upper) rest) - size (undecided (s .lower) (s .upper) rest) ≤ size (group (not last) (s .lower) (s .upper) rest)
@@ -238,25 +235,9 @@ module _ (n i : ℕ) (s : Limits) (ss : List Limits) (h : i + length (s ∷ ss) 
           ∙ ap (union (group last (s .lower) (s .upper) rest))
           (taken-past ranked (others last) far (far-part last) (far-front last) (k - size (group last (s .lower) (s .upper) rest)) p room
           ∙ ap (λ x. union far (taken (toward last (ranksBefore n i (s ∷ ss))) (k - size (group last (s .lower) (s .upper) rest) - size far) x)) (end-is last)
-          ∙ ap (union far) (taken-same ranked (tie-ordered last) (k - size (group last (s .lower) (s .upper) rest) - size far) (group (not last) (s .lower) (s .upper) rest) (end-room p) (end-tied last)))
+          ∙ ap (union far) (taken-same ranked (tie-toward last) (k - size (group last (s .lower) (s .upper) rest) - size far) (group (not last) (s .lower) (s .upper) rest) (end-room p) (end-tied last)))
 
--- ---- by number, one unit after the other
-
--- the unit that goes first by number goes first in the order of the numbers, or in its mirror image
-first-by-number : (last : Bool) (c u : ℕ) → FirstByNumber last c u → Foremost (toward last tieOrder) (λ x. bit c x ≡ 1) u
-first-by-number false c u f = record { member = f .has; least = λ v b. go v b (decLt v u) }
-  where
-    go : (v : ℕ) → bit c v ≡ 1 → Dec (v < u) → ltb v u ≡ false
-    go v b (yes l) = absurd (omega (arith, f .first v l))
-    go v b (no l) = le-ltb v u (omega arith)
-first-by-number true c u f = record { member = f .has; least = λ v b. go v b (decLt u v) }
-  where
-    go : (v : ℕ) → bit c v ≡ 1 → Dec (u < v) → ltb u v ≡ false
-    go v b (yes l) = absurd (omega (arith, f .first v l))
-    go v b (no l) = le-ltb u v (omega arith)
-
-pub first-has : (last : Bool) (c u : ℕ) → FirstByNumber last c u → bit c u ≡ 1
-first-has last c u f = first-by-number last c u f .member
+-- ---- by the tie order, one unit after the other
 
 -- what the first `left` units leave of `rest` is what the first k leave of c
 pub record Cleared (before : ℕ → ℕ → Bool) (c k rest left : ℕ) : Type 0 where
@@ -266,26 +247,20 @@ pub record Cleared (before : ℕ → ℕ → Bool) (c k rest left : ℕ) : Type 
 pub clear-begun : (before : ℕ → ℕ → Bool) (c k : ℕ) → k ≤ size c → Cleared before c k c k
 clear-begun before c k h = record { enough = h; leaves = refl }
 
-pub clear-on : (last : Bool) (c k rest left u : ℕ) → 0 < left → FirstByNumber last rest u → Cleared (toward last tieOrder) c k rest left
-    → Cleared (toward last tieOrder) c k (remove rest u) (left - 1)
-clear-on last c k rest left u pos f g =
+pub clear-on : {before : ℕ → ℕ → Bool} → Ordered before → (c k rest left : ℕ) → 0 < left → Cleared before c k rest left
+    → Cleared before c k (remove rest (firstIn before (members rest))) (left - 1)
+unfolding taken
+clear-on {before} o c k rest left pos g =
     record {
-      enough = omega (arith, size-remove rest u (goes .member), g .enough);
-      leaves = sym (difference-insert rest (taken (toward last tieOrder) (left - 1) (remove rest u)) u) ∙ ap (difference rest) (sym one) ∙ g .leaves;
+      enough = omega (arith, size-remove rest u (first-of-set o rest (omega (arith, g .enough)) .member), g .enough);
+      leaves = sym (difference-insert rest (taken before (left - 1) (remove rest u)) u) ∙ ap (λ (m : ℕ). difference rest (taken before m rest)) sum ∙ g .leaves;
     }
   where
-    goes : Foremost (toward last tieOrder) (λ x. bit rest x ≡ 1) u
-    goes = first-by-number last rest u f
+    u : ℕ
+    u = firstIn before (members rest)
 
     sum : suc (left - 1) ≡ left
     sum = omega arith
-
-    one : taken (toward last tieOrder) left rest ≡ insert (taken (toward last tieOrder) (left - 1) (remove rest u)) u
-    one =
-        chosen-unique (tie-ordered last) (taken-chosen (tie-ordered last) left rest (g .enough))
-        (subst (λ (m : ℕ). Chosen (toward last tieOrder) m rest (insert (taken (toward last tieOrder) (left - 1) (remove rest u)) u)) sum
-        (one-more (tie-ordered last) (left - 1) rest u (taken (toward last tieOrder) (left - 1) (remove rest u)) goes
-        (taken-chosen (tie-ordered last) (left - 1) (remove rest u) (omega (arith, size-remove rest u (goes .member), g .enough)))))
 
 pub clear-done : (before : ℕ → ℕ → Bool) (c k rest left : ℕ) → left ≡ 0 → Cleared before c k rest left → rest ≡ difference c (taken before k c)
 unfolding taken
@@ -295,14 +270,14 @@ clear-done before c k rest left e g =
 -- a set without what its first units leave is those units
 pub taken-cleared : (last : Bool) (k c : ℕ) → k ≤ size c → difference c (difference c (taken (toward last tieOrder) k c)) ≡ taken (toward last tieOrder) k c
 taken-cleared last k c h =
-    difference-twice c (taken (toward last tieOrder) k c) (taken-chosen (tie-ordered last) k c h .inside)
+    difference-twice c (taken (toward last tieOrder) k c) (taken-chosen (tie-toward last) k c h .inside)
 
 -- and the first k units are what is left when all the others, the last ones, are cleared
 pub taken-others : (last : Bool) (k c : ℕ) → k ≤ size c → difference c (taken (toward (not last) tieOrder) (size c - k) c) ≡ taken (toward last tieOrder) k c
 taken-others last k c h =
     let rest = taken (toward (not last) tieOrder) (size c - k) c in
-    let others = taken-chosen (tie-ordered (not last)) (size c - k) c (omega arith) in
-    chosen-unique (tie-ordered last) {h = taken (toward last tieOrder) k c}
+    let others = taken-chosen (tie-toward (not last)) (size c - k) c (omega arith) in
+    chosen-unique (tie-toward last) {h = taken (toward last tieOrder) k c}
     (record {
       inside = λ u. omega (arith, bit-difference c rest u);
       counted = omega (arith, size-difference c rest (others .inside), others .counted);
@@ -310,7 +285,7 @@ taken-others last k c h =
           mirrored last v w
           (others .ahead w v (omega (arith, bit-difference c rest w, bit-le rest w)) (omega (arith, bit-difference c rest v, bit-le c v)) (omega (arith, bit-difference c rest v, bit-le c v)));
     })
-    (taken-chosen (tie-ordered last) k c h)
+    (taken-chosen (tie-toward last) k c h)
   where
     mirrored : (b : Bool) (v w : ℕ) → toward (not b) tieOrder w v ≡ true → toward b tieOrder v w ≡ true
     mirrored true v w e = e

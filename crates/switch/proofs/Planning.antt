@@ -8,19 +8,19 @@ use lib.ListN.{length, length-set, drop, set, drop-of-length-le}
 use lib.Seq.{sets}
 use Rattle.units.specs.Sets.{difference, size}
 use Rattle.plans.specs.declared.Limits.{Limits}
-use Rattle.plans.specs.Support.{ranksBefore, supportSet, supportFrom, findSupport}
+use Rattle.plans.specs.Support.{tieOrder, ranksBefore, supportSet, supportFrom, findSupportBy, findSupport}
 use Rattle.plans.specs.Switch.{switches, total}
 
 -- The plan from the step at i on, where `before` is on before it.
 abbrev pub rest : List Limits → ℕ → ℕ → List ℕ
-rest ss i before = supportFrom (length ss) (i + 1) before (drop i ss)
+rest ss i before = supportFrom (λ k. tieOrder) (length ss) (i + 1) before (drop i ss)
 
 -- the set of the step at i, and the plan after it
 pub rest-at : (ss : List Limits) (i before x : ℕ) {s : Limits} → drop i ss ≡ s ∷ drop (i + 1) ss
     → x ≡ supportSet (ranksBefore (length ss) (i + 1) (drop i ss)) s before → rest ss i before ≡ x ∷ rest ss (i + 1) x
 unfolding supportFrom
 rest-at ss i before x {s} e is =
-    ap (supportFrom (length ss) (i + 1) before) e
+    ap (supportFrom (λ k. tieOrder) (length ss) (i + 1) before) e
     ∙ ap (λ (y : ℕ). y ∷ rest ss (i + 1) y) (ap (λ t. supportSet (ranksBefore (length ss) (i + 1) t) s before) (sym e) ∙ sym is)
 
 -- After i steps: with the sets and the switches still to come, the output holds the plan and the number is its total.
@@ -31,7 +31,7 @@ pub record Planned (ss : List Limits) (start : ℕ) (entry now : List ℕ) (i be
   pub small : sum ≤ 64 * i
 
 pub plan-begun : (ss : List Limits) (start : ℕ) (entry : List ℕ) → Planned ss start entry entry 0 start 0
-unfolding findSupport
+unfolding findSupportBy
 plan-begun ss start entry = record { same-long = refl; ends = refl; counted = omega arith; small = omega arith }
 
 module _ {ss : List Limits} {start : ℕ} {entry now : List ℕ} {i before sum : ℕ} (g : Planned ss start entry now i before sum) where
@@ -52,5 +52,5 @@ module _ {ss : List Limits} {start : ℕ} {entry now : List ℕ} {i before sum :
   unfolding total supportFrom
   plan-done e =
       let none : length ss ≤ i = omega arith in
-      let over : rest ss i before ≡ [] = ap (supportFrom (length ss) (i + 1) before) (drop-of-length-le ss none) in
+      let over : rest ss i before ≡ [] = ap (supportFrom (λ k. tieOrder) (length ss) (i + 1) before) (drop-of-length-le ss none) in
       (ap (sets now i) (sym over) ∙ g .ends, omega (arith, ap (total before) over, g .counted))

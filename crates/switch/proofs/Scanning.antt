@@ -1,10 +1,10 @@
 -- The scan over the steps that finds the first units of a set in the ranking.
-use mathlib.Core.Path.{_≡_, refl, sym, ap, _∙_, subst₂}
+use mathlib.Core.Path.{_≡_, sym, ap, _∙_, subst₂}
 use mathlib.Core.Bool.{Bool, true, false, and-eq-true-iff}
 use mathlib.Core.List.{List, [], _++_}
 use Prim.Native.Nat.{ℕ, _+_, _-_, _^_, _≤_, _<_}
 use native.Mathlib.Omega.{arith}
-use borrow.Author.Tests.{le-ltb, eq-eqb, leb-true}
+use borrow.Author.Tests.{leb-true}
 use lib.Dec.{leb}
 use lib.ListN.{length, length-drop, length-take, drop, drop-of-length-le, take-append-drop}
 use lib.Seq.{drop-drop}
@@ -17,21 +17,18 @@ use Rattle.switch.specs.Stretches.{requiredIn, allowedIn, between}
 use Rattle.switch.specs.Toward.{toward}
 use Rattle.plans.specs.Rows.{limits, stepAt, rankingAt}
 use Rattle.switch.specs.Looked.{Looked, Ahead}
-use Rattle.plans.specs.Support.{nextRequired, nextForbidden, requiredFirst, ranksBefore, taken, tieOrder}
+use Rattle.plans.specs.Support.{tieOrder, ranksBefore, taken}
 use Rattle.plans.specs.declared.Limits.{Limits}
-use Rattle.switch.proofs.Picking.{toward-ordered, tie-ordered, taken-same, taken-far}
+use Rattle.switch.proofs.Picking.{toward-ordered, tie-toward, taken-same, taken-far}
 use Rattle.switch.proofs.Stretching.{groupIn, undecidedIn, stretch-taken}
-use Rattle.plans.proofs.Ranks.{ranks-ordered}
+use Rattle.plans.proofs.Orders.{tie-ordered}
+use Rattle.plans.proofs.Ranks.{ranks-ordered, ended-tied}
 use Rattle.plans.proofs.Laid.{steps-at}
 
 -- after the last step only the tie order is left
-ended-tied : (n i u v : ℕ) → ranksBefore n i [] u v ≡ tieOrder u v
-unfolding ranksBefore requiredFirst nextRequired nextForbidden
-ended-tied n i u v = simp (le-ltb (n + 2) (n + 1) (omega arith), le-ltb (n + 1) (n + 1) (omega arith), eq-eqb (n + 1) (n + 1) refl)
-
 ended-toward : (last : Bool) (n i u v : ℕ) → toward last (ranksBefore n i []) u v ≡ toward last tieOrder u v
-ended-toward false n i u v = ended-tied n i u v
-ended-toward true n i u v = ended-tied n i v u
+ended-toward false n i u v = ended-tied tieOrder n i u v
+ended-toward true n i u v = ended-tied tieOrder n i v u
 
 -- ---- what a scan looks at next
 
@@ -103,7 +100,7 @@ module _ (ss : List Limits) (from c k : ℕ) (last : Bool) where
     scan-ended e =
         let none : length ss ≤ j = omega arith in
         ap (union found)
-        (sym (taken-same (toward-ordered last (ranks-ordered (length ss) (j + 1) (drop j ss))) (tie-ordered last) left rest (g .enough)
+        (sym (taken-same (toward-ordered last (ranks-ordered tie-ordered (length ss) (j + 1) (drop j ss))) (tie-toward last) left rest (g .enough)
         (λ v w p q. ap (λ t. toward last (ranksBefore (length ss) (j + 1) t) v w) (drop-of-length-le ss none) ∙ ended-toward last (length ss) (j + 1) v w)))
         ∙ g .all
 

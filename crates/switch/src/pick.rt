@@ -1,4 +1,4 @@
-// The first units of a set, by number or by rank. By rank, a scan looks at the steps ahead, at a block of sixteen at once where it can.
+// The first units of a set, by the tie order or by rank. By rank, a scan looks at the steps ahead, at a block of sixteen at once where it can.
 use super::group::can_pass;
 use super::group::group;
 use super::group::undecided;
@@ -19,19 +19,19 @@ ghost use lib.ListN.{length};
 ghost use Rattle.units.specs.Sets.{difference, size};
 ghost use Rattle.switch.specs.Looked.{Looked, Ahead};
 ghost use Rattle.switch.specs.Stretches.{Blocks};
-ghost use Rattle.plans.specs.Support.{taken, tieOrder};
-ghost use Rattle.switch.specs.Toward.{toward, FirstByNumber};
+ghost use Rattle.plans.specs.Support.{tieOrder, members, firstIn, taken};
+ghost use Rattle.switch.specs.Toward.{toward};
 ghost use Rattle.plans.specs.Rows.{rankingAt, stepsIn, Rows};
 
-// The unit of s, which has one, that goes first by number: the lowest, or the highest where last is true.
-fn first_by_number(s: u64, last: bool) -> u32
+// The unit of s, which has one, that goes first in the tie order, or last. The higher number goes first: this is the house rule, and no other function knows it.
+fn first_by_tie(s: u64, last: bool) -> u32
     requires { ⌜ 0 < s ⌝ }
-    ensures { λ r. ⌜ FirstByNumber last s r ⌝ }
+    ensures { λ r. ⌜ r ≡ firstIn (toward last tieOrder) (members s) ⌝ }
 {
-    if last { highest(s) } else { lowest(s) }
+    if last { lowest(s) } else { highest(s) }
 }
 
-// What the k units of s that go first by number, or last, leave of it.
+// What the k units of s that go first in the tie order, or last, leave of it.
 fn cleared(s: u64, k: u64, last: bool) -> u64
     requires { ⌜ k ≤ size s ⌝ }
     ensures { λ r. ⌜ r ≡ difference s (taken (toward last tieOrder) k s) ⌝ }
@@ -39,15 +39,15 @@ fn cleared(s: u64, k: u64, last: bool) -> u64
     let mut rest = s;
     let mut left = k;
     while 0 < left {
-        let u = first_by_number(rest, last);
+        let u = first_by_tie(rest, last);
         rest = remove(rest, u);
         left -= 1;
     }
     rest
 }
 
-// The k units of s that go first by number, or last. They are cleared, or the others are: whichever are fewer.
-pub fn by_number(s: u64, k: u64, last: bool) -> u64
+// The k units of s that go first in the tie order, or last. They are cleared, or the others are: whichever are fewer.
+pub fn by_tie(s: u64, k: u64, last: bool) -> u64
     requires { ⌜ k ≤ size s ⌝ }
     ensures { λ r. ⌜ r ≡ taken (toward last tieOrder) k s ⌝ }
 {
@@ -83,7 +83,7 @@ fn look(lower: u64, upper: u64, rest: u64, left: u64, last: bool) -> Pick
     let many = size(first) as u64;
     if left <= many {
         return Pick {
-            found: by_number(first, left, last),
+            found: by_tie(first, left, last),
             rest: 0,
             left: 0,
         };
@@ -93,7 +93,7 @@ fn look(lower: u64, upper: u64, rest: u64, left: u64, last: bool) -> Pick
     if others <= after {
         let end = group(lower, upper, rest, !last);
         return Pick {
-            found: union(union(first, later), by_number(end, after - others, last)),
+            found: union(union(first, later), by_tie(end, after - others, last)),
             rest: 0,
             left: 0,
         };
@@ -143,7 +143,7 @@ pub fn by_rank(rows: &[u64], blocks: &[u64], from: usize, c: u64, k: u64, last: 
     let mut j = from;
     while 0 < left {
         if j == n {
-            return union(found, by_number(rest, left, last));
+            return union(found, by_tie(rest, left, last));
         }
         let s = ahead(rows, blocks, j, rest, left, last);
         let p = look(s.lower, s.upper, rest, left, last);

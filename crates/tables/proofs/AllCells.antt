@@ -7,7 +7,7 @@ use Rattle.units.specs.Sets.{bit, union, intersection, difference, meets, conta
 use Rattle.plans.specs.declared.Limits.{Limits}
 use Rattle.plans.specs.Plans.{select, below, allows, prefixed, plansOf, plansWithin, joined, joinedAll, canBeOn, canBeOff}
 use Rattle.plans.specs.Rows.{limits, stepAt}
-use Rattle.plans.specs.Support.{nextRequired, nextForbidden, requiredFirst, ranksBefore, firstIn, taken, supportSet, supportFrom, findSupport}
+use Rattle.plans.specs.Support.{nextRequired, nextForbidden, requiredFirst, ranksBy, firstIn, taken, supportSet, supportFrom, findSupportBy, findSupport}
 use Rattle.plans.specs.Switch.{switches, total}
 use Rattle.tables.specs.Tables.{gathered, passing, free, held, new, more, less, come, rowBefore, turnedRow, turned, setAt, heldAt, rowsAt, ended, evenRow, gainRow, savesBefore, dispensableBefore, evenBefore, gainBefore, stepped, laterFrom, inPlace, onWord, offWord, ampleOn, ampleOff, laterAt, onAt, offAt, onBySlack, offBySlack}
 
@@ -33,5 +33,5 @@ Drawn slack on off =
 pub cells-agree :
     Drawn 0 (2 ∷ 3 ∷ 3 ∷ 7 ∷ []) (5 ∷ 4 ∷ 7 ∷ 7 ∷ [])
     × (Drawn 1 (3 ∷ 3 ∷ 7 ∷ 7 ∷ []) (7 ∷ 4 ∷ 7 ∷ 7 ∷ []) × Drawn 2 (7 ∷ 3 ∷ 7 ∷ 7 ∷ []) (7 ∷ 4 ∷ 7 ∷ 7 ∷ []))
-unfolding bit union intersection difference meets contains insert remove isSubset size unitsBelow nextRequired nextForbidden requiredFirst ranksBefore firstIn taken supportSet supportFrom findSupport select below allows prefixed plansOf plansWithin joined joinedAll canBeOn canBeOff stepAt switches total gathered passing free held new more less come rowBefore turnedRow turned setAt heldAt rowsAt ended evenRow gainRow savesBefore dispensableBefore evenBefore gainBefore stepped laterFrom inPlace onWord offWord ampleOn ampleOff laterAt onAt offAt onBySlack offBySlack ones onesIn
+unfolding bit union intersection difference meets contains insert remove isSubset size unitsBelow nextRequired nextForbidden requiredFirst ranksBy firstIn taken supportSet supportFrom findSupportBy select below allows prefixed plansOf plansWithin joined joinedAll canBeOn canBeOff stepAt switches total gathered passing free held new more less come rowBefore turnedRow turned setAt heldAt rowsAt ended evenRow gainRow savesBefore dispensableBefore evenBefore gainBefore stepped laterFrom inPlace onWord offWord ampleOn ampleOff laterAt onAt offAt onBySlack offBySlack ones onesIn
 cells-agree = (((refl, refl), (refl, refl)), (((refl, refl), (refl, refl)), ((refl, refl), (refl, refl))))

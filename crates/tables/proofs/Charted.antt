@@ -19,7 +19,7 @@ use Rattle.plans.specs.declared.Limits.{Limits}
 use Rattle.plans.specs.Switch.{Satisfiable, total}
 use Rattle.plans.proofs.AllPlans.{Shows, SomePlan, plan-below}
 use Rattle.plans.proofs.Cells.{cell, cell-on, cell-beyond}
-use Rattle.plans.proofs.Orders.{ltb-ordered}
+use Rattle.plans.proofs.Orders.{tie-ordered}
 use Rattle.tables.specs.Tables.{rowCount, held, setAt, offWord, ampleOn, ampleOff, laterAt, onAt, offAt, onBySlack, offBySlack}
 use Rattle.tables.proofs.Exact.{on-exact, off-exact}
 use Rattle.tables.proofs.Gathering.{equal-units}
@@ -56,20 +56,20 @@ module _ (d bound start : ℕ) (ss : List Limits) (sat : Satisfiable ss) (low : 
     (slack : bound ≡ total start (findSupport start ss) + cond tight 0 1) (i : ℕ) (l : i < length ss) where
   -- the plan by its recursive ranking
   plan-is : run tieOrder start ss ≡ findSupport start ss
-  plan-is = run-support start ss sat
+  plan-is = run-support tie-ordered start ss sat
 
   -- a unit is in the words exactly if some plan within the bound has it so
   on-some : (u : ℕ) → (bit (onAt tight start ss (findSupport start ss) i) u ≡ 1) ↔ SomePlan bound start ss i (Shows true u)
   unfolding onAt laterAt
   on-some u =
       subst (λ plan. (bit (onAt tight start ss plan i) u ≡ 1) ↔ SomePlan bound start ss i (Shows true u)) plan-is
-      (on-exact ltb-ordered start ss sat (below-more d ss few low) i l tight bound (rw plan-is slack) u)
+      (on-exact tie-ordered start ss sat (below-more d ss few low) i l tight bound (rw plan-is slack) u)
 
   off-some : (u : ℕ) → u < d → (bit (offAt tight (2 ^ d - 1) start ss (findSupport start ss) i) u ≡ 1) ↔ SomePlan bound start ss i (Shows false u)
   unfolding offAt laterAt
   off-some u h =
       subst (λ plan. (bit (offAt tight (2 ^ d - 1) start ss plan i) u ≡ 1) ↔ SomePlan bound start ss i (Shows false u)) plan-is
-      (off-exact ltb-ordered start ss sat (below-more d ss few low) i l tight bound (rw plan-is slack) (2 ^ d - 1) u (bit-full d u h))
+      (off-exact tie-ordered start ss sat (below-more d ss few low) i l tight bound (rw plan-is slack) (2 ^ d - 1) u (bit-full d u h))
 
   -- none of the units from d up is among those that can be off
   off-beyond : (u : ℕ) → d ≤ u → bit (offAt tight (2 ^ d - 1) start ss (findSupport start ss) i) u ≡ 1 → ⊥
@@ -77,7 +77,7 @@ module _ (d bound start : ℕ) (ss : List Limits) (sat : Satisfiable ss) (low : 
   off-beyond u h e =
       let t = getD (findSupport start ss) i 0 in
       let none : bit t u ≡ 0 =
-      bit-above d t u (rw plan-is at (plan-below d ss (run tieOrder start ss) i l low (run-feasible ltb-ordered ss sat start))) h in
+      bit-above d t u (rw plan-is at (plan-below d ss (run tieOrder start ss) i l low (run-feasible tie-ordered ss sat start))) h in
       ⊎-elim (λ k. omega (arith, in-difference (2 ^ d - 1) t u .0 k, bit-above d (2 ^ d - 1) u (omega (arith, pow-pos d)) h))
       (λ k. let (a, (b, c)) = bit-passing rowCount _ _ u .0 k in omega (arith, in-difference _ _ u .0 b)) (in-union _ _ u .0 e)
 

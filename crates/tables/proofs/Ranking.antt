@@ -1,6 +1,6 @@
 -- The ranking as a recursion over the steps, for any tie order: units go by their classes in the step, those that the step leaves free as from the
--- next step on, and the tie order decides among the required and among the forbidden. It fits the steps (`rank-refines`), and with the tie order of
--- FindSupport it is FindSupport's (`ranks-are`). Forcing a unit on raises it and nothing else (`raised-on`), forcing it off lowers it (`raised-off`).
+-- next step on, and the tie order decides among the required and among the forbidden. It fits the steps (`rank-refines`), and it is
+-- FindSupport's with that tie order (`ranks-are`). Forcing a unit on raises it and nothing else (`raised-on`), forcing it off lowers it (`raised-off`).
 use mathlib.Core.Path.{_≡_, refl, sym, _∙_, fun-ext}
 use mathlib.Core.Logic.{_⊎_, inl, inr}
 use mathlib.Core.Bool.{Bool, true, false, false≢true}
@@ -16,9 +16,9 @@ use Rattle.units.proofs.Limits.{some-feasible}
 use Rattle.units.proofs.Sets.{bit-cases, bit-le, bit-insert, bit-insert-other, bit-remove, bit-remove-other}
 use Rattle.plans.specs.declared.Limits.{Limits}
 use Rattle.plans.specs.Switch.{Satisfiable}
-use Rattle.plans.specs.Support.{nextRequired, nextForbidden, requiredFirst, tieOrder, ranksBefore}
-use Rattle.plans.proofs.Orders.{Ordered, asymmetric, ltb-ordered, lexical, lexical-ordered, classed, classed-ordered}
-use Rattle.plans.proofs.Ranks.{Refines, better, better-ranks, ranks-ordered, required-better, allowed-better, required-tied, forbidden-tied, open-ranked}
+use Rattle.plans.specs.Support.{ranksBy}
+use Rattle.plans.proofs.Orders.{Ordered, asymmetric, lexical, lexical-ordered, classed, classed-ordered}
+use Rattle.plans.proofs.Ranks.{Refines, better, better-ranks, ranks-ordered, required-better, allowed-better, required-tied, forbidden-tied, open-ranked, ended-tied}
 use Rattle.plans.proofs.Stands.{StandsFor}
 use Rattle.tables.proofs.Forced.{forced}
 use Rattle.tables.proofs.Raised.{class, Raised}
@@ -86,11 +86,11 @@ rank-refines {tie} o ss = record { ordered = rank-ordered o ss; stands = rank-st
 
 -- ---- FindSupport's ranking
 
-module _ (n i : ℕ) (s : Limits) (ss : List Limits) (h : i + length (s ∷ ss) ≡ n + 1) (within : Subset (s .lower) (s .upper)) where
+module _ (tie : ℕ → ℕ → Bool) (n i : ℕ) (s : Limits) (ss : List Limits) (h : i + length (s ∷ ss) ≡ n + 1) (within : Subset (s .lower) (s .upper)) where
   -- FindSupport has a unit of a lower class first too
-  class-ranks : (u v : ℕ) → class s u < class s v → ranksBefore n i (s ∷ ss) u v ≡ true
+  class-ranks : (u v : ℕ) → class s u < class s v → ranksBy tie n i (s ∷ ss) u v ≡ true
   unfolding class
-  class-ranks u v l = better-ranks n i (s ∷ ss) u v (go (bit-cases (s .upper) v))
+  class-ranks u v l = better-ranks tie n i (s ∷ ss) u v (go (bit-cases (s .upper) v))
     where
       au : (bit (s .lower) u ≤ bit (s .upper) u) × (bit (s .upper) u ≤ 1)
       au = (within u, bit-le (s .upper) u)
@@ -100,8 +100,8 @@ module _ (n i : ℕ) (s : Limits) (ss : List Limits) (h : i + length (s ∷ ss) 
       go (inr e) = required-better n i s ss h u v (omega (arith, au)) (omega (arith, au)) (omega (arith, au))
 
   -- and ranks those of one class as `rank` does, if it does so from the next step on
-  same-ranks : (u v : ℕ) → class s u ≡ class s v → ranksBefore n (i + 1) ss u v ≡ rank tieOrder ss u v
-      → ranksBefore n i (s ∷ ss) u v ≡ rank tieOrder (s ∷ ss) u v
+  same-ranks : (u v : ℕ) → class s u ≡ class s v → ranksBy tie n (i + 1) ss u v ≡ rank tie ss u v
+      → ranksBy tie n i (s ∷ ss) u v ≡ rank tie (s ∷ ss) u v
   unfolding class
   same-ranks u v e ih = go (bit-cases (s .lower) u) (bit-cases (s .upper) u)
     where
@@ -109,40 +109,37 @@ module _ (n i : ℕ) (s : Limits) (ss : List Limits) (h : i + length (s ∷ ss) 
       av = (within v, bit-le (s .upper) v)
 
       go : (bit (s .lower) u ≡ 0) ⊎ (bit (s .lower) u ≡ 1) → (bit (s .upper) u ≡ 0) ⊎ (bit (s .upper) u ≡ 1)
-          → ranksBefore n i (s ∷ ss) u v ≡ rank tieOrder (s ∷ ss) u v
+          → ranksBy tie n i (s ∷ ss) u v ≡ rank tie (s ∷ ss) u v
       go (inl a) (inl b) =
-          forbidden-tied n i s ss h u v b (omega (arith, av)) ∙ sym (rank-tied tieOrder s ss u v e (λ c. omega arith))
+          forbidden-tied n i s ss h tie u v b (omega (arith, av)) ∙ sym (rank-tied tie s ss u v e (λ c. omega arith))
       go (inl a) (inr b) =
-          open-ranked n i s ss h u v a b (omega (arith, av)) (omega (arith, av)) ∙ ih ∙ sym (rank-free tieOrder s ss u v (omega arith) (omega arith))
+          open-ranked n i s ss h tie u v a b (omega (arith, av)) (omega (arith, av)) ∙ ih ∙ sym (rank-free tie s ss u v (omega arith) (omega arith))
       go (inr a) (inl b) = absurd (omega (arith, within u))
       go (inr a) (inr b) =
-          required-tied n i s ss h u v a b (omega (arith, av)) (omega (arith, av)) ∙ sym (rank-tied tieOrder s ss u v e (λ c. omega arith))
-
--- without steps the tie order alone decides
-empty-ranks : (n i u v : ℕ) → ranksBefore n i [] u v ≡ rank tieOrder [] u v
-unfolding ranksBefore requiredFirst nextRequired nextForbidden rank
-empty-ranks n i u v = rw (le-ltb (n + 2) (n + 1) (omega arith), le-ltb (n + 1) (n + 1) (omega arith), eq-eqb (n + 1) (n + 1) refl)
+          required-tied n i s ss h tie u v a b (omega (arith, av)) (omega (arith, av)) ∙ sym (rank-tied tie s ss u v e (λ c. omega arith))
 
 -- so both say the same of each two units
-ranks-alike : (n i : ℕ) (ss : List Limits) → Satisfiable ss → i + length ss ≡ n + 1 → (u v : ℕ) → ranksBefore n i ss u v ≡ rank tieOrder ss u v
-ranks-alike n i [] f h u v = empty-ranks n i u v
-ranks-alike n i (s ∷ ss) f h u v =
-    go (ranks-alike n (i + 1) ss (f .1) (omega arith) u v) (decLt (class s u) (class s v)) (decLt (class s v) (class s u))
+ranks-alike : {tie : ℕ → ℕ → Bool} → Ordered tie → (n i : ℕ) (ss : List Limits) → Satisfiable ss → i + length ss ≡ n + 1
+    → (u v : ℕ) → ranksBy tie n i ss u v ≡ rank tie ss u v
+unfolding rank
+ranks-alike {tie} o n i [] f h u v = ended-tied tie n i u v
+ranks-alike {tie} o n i (s ∷ ss) f h u v =
+    go (ranks-alike o n (i + 1) ss (f .1) (omega arith) u v) (decLt (class s u) (class s v)) (decLt (class s v) (class s u))
   where
     within : Subset (s .lower) (s .upper)
     within w = let (x, a) = some-feasible (s .lower) (s .upper) (s .least) (s .greatest) .0 (f .0) in omega (arith, a .includes w, a .within w)
 
-    go : ranksBefore n (i + 1) ss u v ≡ rank tieOrder ss u v → Dec (class s u < class s v) → Dec (class s v < class s u)
-        → ranksBefore n i (s ∷ ss) u v ≡ rank tieOrder (s ∷ ss) u v
-    go ih (yes l) d = class-ranks n i s ss h within u v l ∙ sym (rank-class tieOrder s ss u v l)
+    go : ranksBy tie n (i + 1) ss u v ≡ rank tie ss u v → Dec (class s u < class s v) → Dec (class s v < class s u)
+        → ranksBy tie n i (s ∷ ss) u v ≡ rank tie (s ∷ ss) u v
+    go ih (yes l) d = class-ranks tie n i s ss h within u v l ∙ sym (rank-class tie s ss u v l)
     go ih (no g) (yes l) =
-        asymmetric (ranks-ordered n i (s ∷ ss)) v u (class-ranks n i s ss h within v u l)
-        ∙ sym (asymmetric (rank-ordered ltb-ordered (s ∷ ss)) v u (rank-class tieOrder s ss v u l))
-    go ih (no g) (no k) = same-ranks n i s ss h within u v (omega arith) ih
+        asymmetric (ranks-ordered o n i (s ∷ ss)) v u (class-ranks tie n i s ss h within v u l)
+        ∙ sym (asymmetric (rank-ordered o (s ∷ ss)) v u (rank-class tie s ss v u l))
+    go ih (no g) (no k) = same-ranks tie n i s ss h within u v (omega arith) ih
 
--- with the tie order of FindSupport the ranking is FindSupport's
-pub ranks-are : (n i : ℕ) (ss : List Limits) → Satisfiable ss → i + length ss ≡ n + 1 → ranksBefore n i ss ≡ rank tieOrder ss
-ranks-are n i ss f h = fun-ext (λ u. fun-ext (ranks-alike n i ss f h u))
+-- so they are one ranking
+pub ranks-are : {tie : ℕ → ℕ → Bool} → Ordered tie → (n i : ℕ) (ss : List Limits) → Satisfiable ss → i + length ss ≡ n + 1 → ranksBy tie n i ss ≡ rank tie ss
+ranks-are o n i ss f h = fun-ext (λ u. fun-ext (ranks-alike o n i ss f h u))
 
 -- ---- one unit higher
 

@@ -1,6 +1,6 @@
 -- The run of greedy sets for any tie order, and its switches. They are the fewest of all feasible plans (`value-least`); so they are known by what each
--- first set leads to (`value-step`, `value-by`) and change by one at the most with a unit more before (`value-more`). With the tie order of FindSupport
--- the run is its plan (`run-support`).
+-- first set leads to (`value-step`, `value-by`) and change by one at the most with a unit more before (`value-more`). It is
+-- FindSupport's plan with that tie order at every step (`run-support`).
 use mathlib.Core.Path.{_≡_, refl, ap}
 use mathlib.Core.Bool.{Bool}
 use mathlib.Core.List.{List, [], _∷_}
@@ -11,7 +11,7 @@ use Rattle.units.specs.Sets.{insert}
 use Rattle.units.proofs.Limits.{some-feasible}
 use Rattle.plans.specs.declared.Limits.{Limits}
 use Rattle.plans.specs.Switch.{Allows, FeasiblePlan, Satisfiable, switches, total}
-use Rattle.plans.specs.Support.{tieOrder, supportSet, supportFrom, findSupport}
+use Rattle.plans.specs.Support.{supportSet, supportFrom, findSupportBy}
 use Rattle.plans.proofs.Greedy.{support-in, support-greedy}
 use Rattle.plans.proofs.Optimal.{optimal}
 use Rattle.plans.proofs.Orders.{Ordered}
@@ -90,17 +90,17 @@ module _ {tie : ℕ → ℕ → Bool} (o : Ordered tie) where
         total-from p a (run tie q ss),
       )
 
--- ---- FindSupport's plan
+  -- ---- FindSupport's plan
 
--- with FindSupport's tie order each set of the run is FindSupport's
-run-from : (n i p : ℕ) (ss : List Limits) → Satisfiable ss → i + length ss ≡ n + 1 → run tieOrder p ss ≡ supportFrom n i p ss
-unfolding run next supportFrom
-run-from n i p [] f h = refl
-run-from n i p (s ∷ ss) f h =
-    let x = next tieOrder s ss p in
-    rw (ranks-are n i (s ∷ ss) f h) (ap (λ (xs : List ℕ). x ∷ xs) (run-from n (i + 1) x ss (f .1) (omega arith)))
+  -- each set of the run is FindSupport's with that order at every step
+  run-from : (n i p : ℕ) (ss : List Limits) → Satisfiable ss → i + length ss ≡ n + 1 → run tie p ss ≡ supportFrom (λ j. tie) n i p ss
+  unfolding run next supportFrom
+  run-from n i p [] f h = refl
+  run-from n i p (s ∷ ss) f h =
+      let x = next tie s ss p in
+      rw (ranks-are o n i (s ∷ ss) f h) (ap (λ (xs : List ℕ). x ∷ xs) (run-from n (i + 1) x ss (f .1) (omega arith)))
 
--- and so the run is its plan
-pub run-support : (start : ℕ) (ss : List Limits) → Satisfiable ss → run tieOrder start ss ≡ findSupport start ss
-unfolding findSupport
-run-support start ss f = run-from (length ss) 1 start ss f (omega arith)
+  -- and so the run is its plan
+  pub run-support : (start : ℕ) (ss : List Limits) → Satisfiable ss → run tie start ss ≡ findSupportBy (λ j. tie) start ss
+  unfolding findSupportBy
+  run-support start ss f = run-from (length ss) 1 start ss f (omega arith)

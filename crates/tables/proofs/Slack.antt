@@ -18,6 +18,7 @@ use Rattle.plans.specs.Support.{findSupport}
 use Rattle.plans.proofs.AllPlans.{Shows, SomePlan, plan-length, allows-at}
 use Rattle.plans.proofs.Greedy.{plan-greedy}
 use Rattle.plans.proofs.Optimal.{optimal}
+use Rattle.plans.proofs.Orders.{tie-ordered}
 use Rattle.tables.proofs.Changed.{lacks-old, allows-more, allows-less, allows-swap}
 
 -- ---- a plan with another set in one step
@@ -133,7 +134,7 @@ slack on u s₀ bound start ss i l f h = (
   λ (p, (g, (k, e))). (getD p i 0, (allows-at ss p i s₀ l g, e)),
   λ (x, (b, e)).
       let p = findSupport start ss in
-      let g = optimal start ss p (plan-greedy start ss f) .0 in
+      let g = optimal start ss p (plan-greedy (λ k. tie-ordered) start ss f) .0 in
       let (y, ((c, n), o)) = nearby (getD ss i s₀) (getD p i 0) x (allows-at ss p i s₀ l g) b on u e in
       (set p i y, (feasible-set ss p i s₀ y g c, (omega (arith, total-set start p i y), rw (getD-set-same p i y 0 (omega (arith, plan-length ss p g))) o))),
 )

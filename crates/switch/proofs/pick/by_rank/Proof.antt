@@ -20,8 +20,8 @@ abbrev μ-loop : tie.MeasureT-loop
 loop-holds : tie.Need-loop-holds Inv-loop μ-loop
 loop-holds c = let a = c .before .before .args in scan-begun (stepsIn (now (a .rows))) (a .from) (a .c) (a .k) (a .last) (c .before .before .pre .1 .1 .0) (c .before .before .pre .1 .1 .1)
 
-by-number-requires : tie.Need-by-number-requires Inv-loop μ-loop
-by-number-requires c κs = c .before .before .loop .inv .enough
+by-tie-requires : tie.Need-by-tie-requires Inv-loop μ-loop
+by-tie-requires c κs = c .before .before .loop .inv .enough
 
 union-requires : tie.Need-union-requires Inv-loop μ-loop
 union-requires c κs = search needs
@@ -30,7 +30,7 @@ returns : tie.Need-returns Inv-loop μ-loop
 returns c =
     let a = c .before .before .before .before .before .before .before .args in
     c .union .ensures
-    ∙ ap (union (c .before .before .before .before .loop .found)) (c .before .by-number .ensures)
+    ∙ ap (union (c .before .before .before .before .loop .found)) (c .before .by-tie .ensures)
     ∙ scan-ended (stepsIn (now (a .rows))) (a .from) (a .c) (a .k) (a .last) (c .before .before .before .before .loop .inv) (omega (arith, c .before .before .if1 .taken, c .before .before .before .before .before .before .before .pre .0 .whole))
 
 ahead-requires : tie.Need-ahead-requires Inv-loop μ-loop
@@ -62,7 +62,7 @@ by-rank-spec =
     Inv-loop
     μ-loop
     loop-holds
-    by-number-requires
+    by-tie-requires
     union-requires
     returns
     ahead-requires

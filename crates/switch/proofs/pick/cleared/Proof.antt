@@ -1,13 +1,15 @@
 -- `switch::pick::cleared` meets its contract. The loop's invariant is `Cleared`: what the units still to be cleared leave of the rest is what is left in
 -- the end; and the rest is a word.
-use mathlib.Core.Path.{sym, subst}
-use Prim.Native.Nat.{ℕ, _-_, _^_, _<_}
+use mathlib.Core.Path.{ap, _∙_}
+use Prim.Native.Nat.{_^_, _<_}
 use native.Mathlib.Omega.{arith}
 use borrow.Author.Needs.{needs}
+use Rattle.units.specs.Sets.{remove}
 use Rattle.units.proofs.Sets.{unit-below, size-pos, remove-le}
 use Rattle.switch.specs.Toward.{toward}
 use Rattle.plans.specs.Support.{tieOrder}
-use Rattle.switch.proofs.Picking.{Cleared, first-has, clear-begun, clear-on, clear-done}
+use Rattle.plans.proofs.Chosen.{first-of-set}
+use Rattle.switch.proofs.Picking.{tie-toward, Cleared, clear-begun, clear-on, clear-done}
 use Rattle.switch.proofs.pick.cleared.Statement.{statement}
 use Rattle.switch.proofs.pick.cleared.Tie as tie
 
@@ -20,13 +22,14 @@ abbrev μ-loop : tie.MeasureT-loop
 loop-holds : tie.Need-loop-holds Inv-loop μ-loop
 loop-holds c = (clear-begun (toward (c .args .last) tieOrder) (c .args .s) (c .args .k) (c .pre), search needs)
 
-first-by-number-requires : tie.Need-first-by-number-requires Inv-loop μ-loop
-first-by-number-requires c κs = size-pos (c .before .loop .rest) (omega (arith, c .before .loop .inv .0 .enough))
+first-by-tie-requires : tie.Need-first-by-tie-requires Inv-loop μ-loop
+first-by-tie-requires c κs = size-pos (c .before .loop .rest) (omega (arith, c .before .loop .inv .0 .enough))
 
 remove-requires : tie.Need-remove-requires Inv-loop μ-loop
 remove-requires c κs =
     let l = c .before .before .loop in
-    unit-below 64 (l .rest) (c .first-by-number .result) (l .inv .1) (first-has (c .before .before .before .args .last) (l .rest) (c .first-by-number .result) (c .first-by-number .ensures))
+    let first = first-of-set (tie-toward (c .before .before .before .args .last)) (l .rest) (omega (arith, l .inv .0 .enough)) in
+    unit-below 64 (l .rest) (c .first-by-tie .result) (l .inv .1) (rw (c .first-by-tie .ensures) (first .member))
 
 sub-left : tie.Need-sub-left Inv-loop μ-loop
 sub-left c = search needs
@@ -38,10 +41,9 @@ loop-again : tie.Need-loop-again Inv-loop μ-loop
 loop-again c =
     let a = c .before .before .before .before .args in
     let l = c .before .before .before .loop in
-    let u = c .before .first-by-number .result in
-    let one = clear-on (a .last) (a .s) (a .k) (l .rest) (l .left) u (c .before .before .loop-test .taken) (c .before .first-by-number .ensures) (l .inv .0) in (
-      subst (λ (r : ℕ). Cleared (toward (a .last) tieOrder) (a .s) (a .k) r (l .left - 1)) (sym (c .remove .ensures)) one,
-      omega (arith, c .remove .ensures, remove-le (l .rest) u, l .inv .1),
+    let removed = c .remove .ensures ∙ ap (remove (l .rest)) (c .before .first-by-tie .ensures) in (
+      rw removed (clear-on (tie-toward (a .last)) (a .s) (a .k) (l .rest) (l .left) (c .before .before .loop-test .taken) (l .inv .0)),
+      omega (arith, c .remove .ensures, remove-le (l .rest) (c .before .first-by-tie .result), l .inv .1),
     )
 
 returns : tie.Need-returns Inv-loop μ-loop
@@ -54,7 +56,7 @@ cleared-spec =
     Inv-loop
     μ-loop
     loop-holds
-    first-by-number-requires
+    first-by-tie-requires
     remove-requires
     sub-left
     loop-less

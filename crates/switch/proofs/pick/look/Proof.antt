@@ -30,8 +30,8 @@ size-requires c κs = search needs
 cast-many : tie.Need-cast-many
 cast-many c = search needs
 
-by-number-requires : tie.Need-by-number-requires
-by-number-requires c κs = search needs
+by-tie-requires : tie.Need-by-tie-requires
+by-tie-requires c κs = search needs
 
 returns-2 : tie.Need-returns-2
 returns-2 c =
@@ -39,7 +39,7 @@ returns-2 c =
     let first = c .before .before .before .group .ensures in
     let many = c .before .before .size .ensures ∙ ap size first in
     subst (λ (x : ℕ). Looked (a .last) (a .lower) (a .upper) (a .rest) (a .left) (record { found = x; rest = 0; left = 0 }))
-    (sym (c .by-number .ensures ∙ ap (taken (toward (a .last) tieOrder) (a .left)) first))
+    (sym (c .by-tie .ensures ∙ ap (taken (toward (a .last) tieOrder) (a .left)) first))
     (looked-first (a .last) (a .lower) (a .upper) (a .rest) (a .left) (c .before .before .before .before .before .before .pre) (omega arith))
 
 sub-after : tie.Need-sub-after
@@ -57,8 +57,8 @@ group-requires-2 c κs = search needs
 union-requires : tie.Need-union-requires
 union-requires c κs = search needs
 
-by-number-requires-2 : tie.Need-by-number-requires-2
-by-number-requires-2 c κs =
+by-tie-requires-2 : tie.Need-by-tie-requires-2
+by-tie-requires-2 c κs =
     let a = c .before .before .before .before .before .before .before .before .before .args in
     let many = c .before .before .before .before .before .size .ensures ∙ ap size (c .before .before .before .before .before .before .group .ensures) in
     let others = c .before .before .before .size2 .ensures ∙ ap size (c .before .before .before .before .before .before .before .before .undecided .ensures) in
@@ -75,7 +75,7 @@ returns-3 c =
     let far = c .before .before .before .before .before .before .before .before .before .before .undecided .ensures in
     let others = c .before .before .before .before .before .size2 .ensures ∙ ap size far in
     subst (λ (x : ℕ). Looked (a .last) (a .lower) (a .upper) (a .rest) (a .left) (record { found = x; rest = 0; left = 0 }))
-    (sym (c .union2 .ensures ∙ ap₂ union (c .before .before .union .ensures ∙ ap₂ union first far) (c .before .by-number2 .ensures ∙ ap₂ (λ (x y : ℕ). taken (toward (a .last) tieOrder) x y) (ap₂ (λ (x y : ℕ). a .left - x - y) many others) (c .before .before .before .group2 .ensures))))
+    (sym (c .union2 .ensures ∙ ap₂ union (c .before .before .union .ensures ∙ ap₂ union first far) (c .before .by-tie2 .ensures ∙ ap₂ (λ (x y : ℕ). taken (toward (a .last) tieOrder) x y) (ap₂ (λ (x y : ℕ). a .left - x - y) many others) (c .before .before .before .group2 .ensures))))
     (looked-end (a .last) (a .lower) (a .upper) (a .rest) (a .left) (c .before .before .before .before .before .before .before .before .before .before .before .pre) (omega arith) (omega arith))
 
 returns-4 : tie.Need-returns-4
@@ -98,14 +98,14 @@ look-spec =
     group-requires
     size-requires
     cast-many
-    by-number-requires
+    by-tie-requires
     returns-2
     sub-after
     size-requires-2
     cast-others
     group-requires-2
     union-requires
-    by-number-requires-2
+    by-tie-requires-2
     union-requires-2
     returns-3
     returns-4)

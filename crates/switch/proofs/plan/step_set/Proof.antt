@@ -13,6 +13,7 @@ use Rattle.plans.specs.declared.Limits.{Limits}
 use Rattle.plans.specs.Rows.{stepsIn, rankingAt}
 use Rattle.plans.specs.Support.{taken, supportSet}
 use Rattle.plans.proofs.Laid.{feasible-at}
+use Rattle.plans.proofs.Orders.{tie-ordered}
 use Rattle.plans.proofs.Ranks.{ranks-ordered}
 use Rattle.switch.specs.Toward.{toward}
 use Rattle.switch.proofs.Supporting.{pick-room, supported, supported-none}
@@ -71,7 +72,7 @@ returns c =
     let begin = c .before .before .before .before in
     let k = c .before .before .before .before .before .before .before .before .before .args in
     let begun = begin .union .ensures ∙ ap (λ (x : ℕ). union x (read .step-at .result .lower)) (c .before .before .before .before .before .intersection .ensures) in
-    supported-none (read .step-at .result) (feasible read) (begin .union .result) (ranks-ordered _ _ _) (k .before) begun (sym (asked (c .before)) ∙ c .if1 .taken)
+    supported-none (read .step-at .result) (feasible read) (begin .union .result) (ranks-ordered tie-ordered _ _ _) (k .before) begun (sym (asked (c .before)) ∙ c .if1 .taken)
     ∙ ap (λ (s : Limits). supportSet (rankingAt (stepsIn (now (k .rows))) (k .i)) s (k .before)) (read .step-at .ensures)
 
 difference-requires : tie.Need-difference-requires
@@ -111,7 +112,7 @@ returns-2 c =
     let picked = found ∙ ap₂ (λ (m x : ℕ). taken (toward leave ranks) m x) (asked (c .before .before .before .before .before .before .before .before)) (among (c .before .before .before .before)) in
     c .choose2 .ensures
     ∙ ap₂ (cond leave) (c .before .before .difference3 .ensures) (c .before .union2 .ensures)
-    ∙ supported (read .step-at .result) (feasible read) (begin .union .result) (ranks-ordered _ _ _) (k .before) begun leave (ap (ltb 0) (over (c .before .before .before .before .before .before .before .before .before))) (c .before .before .before .by-rank .result) picked
+    ∙ supported (read .step-at .result) (feasible read) (begin .union .result) (ranks-ordered tie-ordered _ _ _) (k .before) begun leave (ap (ltb 0) (over (c .before .before .before .before .before .before .before .before .before))) (c .before .before .before .by-rank .result) picked
     ∙ ap (λ (s : Limits). supportSet ranks s (k .before)) (read .step-at .ensures)
 
 pub step-set-spec : {M : Type 1} → statement M

@@ -1,4 +1,4 @@
--- `switch::pick::by_number` meets its contract: what clearing the units leaves, taken away, is those units (`taken-cleared`), and what clearing the others
+-- `switch::pick::by_tie` meets its contract: what clearing the units leaves, taken away, is those units (`taken-cleared`), and what clearing the others
 -- leaves is those units too (`taken-others`).
 use mathlib.Core.Path.{ap, _∙_}
 use mathlib.Core.Bool.{not}
@@ -8,8 +8,8 @@ use Rattle.units.specs.Sets.{difference}
 use Rattle.plans.specs.Support.{taken, tieOrder}
 use Rattle.switch.specs.Toward.{toward}
 use Rattle.switch.proofs.Picking.{taken-cleared, taken-others}
-use Rattle.switch.proofs.pick.by_number.Statement.{statement}
-use Rattle.switch.proofs.pick.by_number.Tie as tie
+use Rattle.switch.proofs.pick.by_tie.Statement.{statement}
+use Rattle.switch.proofs.pick.by_tie.Tie as tie
 
 size-requires : tie.Need-size-requires
 size-requires c κs = search needs
@@ -39,8 +39,8 @@ returns-2 c =
     ∙ ap (λ (m : ℕ). difference (a .s) (taken (toward (not (a .last)) tieOrder) (m - a .k) (a .s))) (c .before .before .size .ensures)
     ∙ taken-others (a .last) (a .k) (a .s) (c .before .before .before .pre)
 
-pub by-number-spec : {M : Type 1} → statement M
-by-number-spec =
+pub by-tie-spec : {M : Type 1} → statement M
+by-tie-spec =
     tie.close
     (tie.spec
     size-requires
