@@ -174,17 +174,17 @@ struct Sets<'a> {
     block_upper: [u64; STEPS / BLOCK],
 }
 
-// A set without its k lowest units, or without its k highest.
+// A set without the k units that go first on a tie, which are its highest, or without its k lowest.
 fn cleared(mut set: u64, k: u32, last: bool) -> u64 {
     for _ in 0..k {
-        let u = if last { 63 - set.leading_zeros() } else { set.trailing_zeros() };
+        let u = if last { set.trailing_zeros() } else { 63 - set.leading_zeros() };
         set &= !(1 << u);
     }
     set
 }
 
-// The k lowest units of a set, or the k highest. They are cleared, or the others are: whichever are fewer.
-fn by_number(set: u64, k: u32, last: bool) -> u64 {
+// The k units of a set that go first on a tie, or last. They are cleared, or the others are: whichever are fewer.
+fn by_tie(set: u64, k: u32, last: bool) -> u64 {
     let others = set.count_ones() - k;
     if k < others {
         set & !cleared(set, k, last)
@@ -229,12 +229,12 @@ fn look(lower: u64, upper: u64, rest: u64, left: u32, last: bool) -> Pick {
     let first = group(lower, upper, rest, last);
     let many = first.count_ones();
     if left <= many {
-        return Pick { found: by_number(first, left, last), rest: 0, left: 0 };
+        return Pick { found: by_tie(first, left, last), rest: 0, left: 0 };
     }
     let (after, others) = (left - many, later.count_ones());
     if others <= after {
         let end = group(lower, upper, rest, !last);
-        return Pick { found: first | later | by_number(end, after - others, last), rest: 0, left: 0 };
+        return Pick { found: first | later | by_tie(end, after - others, last), rest: 0, left: 0 };
     }
     Pick { found: first, rest: later, left: after }
 }
@@ -283,7 +283,7 @@ impl Sets<'_> {
         let (mut found, mut rest, mut left, mut j) = (0, set, k, from);
         while left > 0 {
             if j == self.lower.len() {
-                return found | by_number(rest, left, last);
+                return found | by_tie(rest, left, last);
             }
             let s = self.at(j, rest, left, last);
             let pick = look(s.lower, s.upper, rest, left, last);

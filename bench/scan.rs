@@ -4,11 +4,11 @@
 use crate::library::Reply;
 use crate::plain::{plan_reply, refused, Columns, Summary};
 
-// The k lowest units of a set, or the k highest.
-fn by_number(mut rest: u64, k: u32, last: bool) -> u64 {
+// The k units of a set that go first on a tie, which are its highest, or its k lowest.
+fn by_tie(mut rest: u64, k: u32, last: bool) -> u64 {
     let mut found = 0;
     for _ in 0..k {
-        let u = if last { 63 - rest.leading_zeros() } else { rest.trailing_zeros() };
+        let u = if last { rest.trailing_zeros() } else { 63 - rest.leading_zeros() };
         found |= 1 << u;
         rest &= !(1 << u);
     }
@@ -25,17 +25,17 @@ fn by_rank(lower: &[u64], upper: &[u64], set: u64, k: u32, last: bool) -> u64 {
         let (first, end) = if last { (forbidden, required) } else { (required, forbidden) };
         let many = first.count_ones();
         if left <= many {
-            return found | by_number(first, left, last);
+            return found | by_tie(first, left, last);
         }
         left -= many;
         found |= first;
         let others = far.count_ones();
         if others < left {
-            return found | far | by_number(end, left - others, last);
+            return found | far | by_tie(end, left - others, last);
         }
         rest = far;
     }
-    found | by_number(rest, left, last)
+    found | by_tie(rest, left, last)
 }
 
 // What is on in the first of the given steps, where `before` was on.

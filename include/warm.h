@@ -165,7 +165,7 @@ typedef struct {
 /*
  * A plan with the fewest warm-ups, into the first places of an output, one word for each step. Places after them are left as they are, and so is
  * the whole output on a refusal. An output of WARM_STEPS places is always enough. Where several plans have as few warm-ups, FindSupport's is handed
- * out (docs/FORMAT.md), always the same.
+ * out (docs/FORMAT.md), always the same: where nothing else tells two units apart, it prefers the higher number.
  * Takes three walks along the chain, one pass over the steps, and for each step at most 31 looks at single steps and one at each block of sixteen
  * steps from it on: 32 * n + n * n / 32 looks at the most, for n steps. Refusals: 1 to 9.
  */

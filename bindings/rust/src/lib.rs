@@ -248,7 +248,8 @@ pub fn step_count(sheet: &[u8]) -> Result<usize, Error> {
 
 /// A plan with the fewest warm-ups, into the first places of `output`.
 ///
-/// The plan meets the sheet. Where several have as few warm-ups, it is always the same one of them, the one that FindSupport builds.
+/// The plan meets the sheet. Where several have as few warm-ups, it is always the same one of them, the one that FindSupport builds: where
+/// nothing else tells two units apart, it prefers the higher number.
 ///
 /// ```
 /// let mut sets = [0; warm::STEPS];

@@ -93,7 +93,7 @@ fn b5_no_step() {
 
 #[test]
 fn b6_tie() {
-    assert_eq!(planned(&one_of_two().bytes()), Ok((1, vec![1])));
+    assert_eq!(planned(&one_of_two().bytes()), Ok((1, vec![2])));
 }
 
 #[test]

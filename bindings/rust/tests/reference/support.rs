@@ -1,25 +1,38 @@
 //! FindSupport: the plan that is handed out (docs/FORMAT.md, Plans).
 
+use std::cmp::Reverse;
+
 use super::{has, Sheet};
 
-/// The place of a unit in the ranking, by which units are sorted, and the unit.
-pub type Rank = (bool, isize, usize);
+/// The place of a unit in the ranking, by which units are sorted: its class, its next step, and what decides on a tie.
+pub type Rank<Tie> = (bool, isize, Tie);
 
+/// On a tie the higher number goes first.
+pub fn house_rule(u: usize) -> Reverse<usize> {
+    Reverse(u)
+}
+
+/// The plan that is handed out.
 pub fn find_support(sheet: &Sheet) -> Vec<u64> {
+    find_support_by(sheet, |_, u| house_rule(u))
+}
+
+/// The plan for which, on a tie at step `i`, from 1, the unit `u` with the lesser `tie(i, u)` goes first.
+pub fn find_support_by<Tie: Ord>(sheet: &Sheet, tie: impl Fn(usize, usize) -> Tie) -> Vec<u64> {
     let mut before = sheet.start;
     let mut plan = Vec::new();
     for i in 1..=sheet.steps.len() {
-        before = step_set(sheet, i, before);
+        before = step_set(sheet, i, before, |u| tie(i, u));
         plan.push(before);
     }
     plan
 }
 
 /// The set of step `i`, from 1, after the set `before`.
-fn step_set(sheet: &Sheet, i: usize, before: u64) -> u64 {
+fn step_set<Tie: Ord>(sheet: &Sheet, i: usize, before: u64, tie: impl Fn(usize) -> Tie) -> u64 {
     let step = &sheet.steps[i - 1];
     let (least, greatest) = (u32::from(step.least), u32::from(step.greatest));
-    let ranking = ranking(sheet, i);
+    let ranking = ranking(sheet, i, tie);
     let mut set = before & step.upper | step.lower;
     for &u in ranking.iter().rev() {
         if set.count_ones() > greatest && has(set, u) && !has(step.lower, u) {
@@ -35,19 +48,19 @@ fn step_set(sheet: &Sheet, i: usize, before: u64) -> u64 {
 }
 
 /// The units at step `i`, first in rank first.
-fn ranking(sheet: &Sheet, i: usize) -> Vec<usize> {
+fn ranking<Tie: Ord>(sheet: &Sheet, i: usize, tie: impl Fn(usize) -> Tie) -> Vec<usize> {
     let mut units: Vec<usize> = (0..sheet.units).collect();
-    units.sort_by_key(|&u| rank(need(sheet, i, u), ban(sheet, i, u), u));
+    units.sort_by_cached_key(|&u| rank(need(sheet, i, u), ban(sheet, i, u), tie(u)));
     units
 }
 
-/// Wanted units before the rest; among wanted ones the earlier need first, among the rest the later ban first; then the lower number.
-pub fn rank(need: usize, ban: usize, u: usize) -> Rank {
+/// Wanted units before the rest; among wanted ones the earlier need first, among the rest the later ban first; then the lesser `tie`.
+pub fn rank<Tie>(need: usize, ban: usize, tie: Tie) -> Rank<Tie> {
     let wanted = need < ban;
     if wanted {
-        (false, need as isize, u)
+        (false, need as isize, tie)
     } else {
-        (true, -(ban as isize), u)
+        (true, -(ban as isize), tie)
     }
 }
 
