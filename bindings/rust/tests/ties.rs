@@ -28,7 +28,8 @@ fn draw_orders(campaign: &Campaign, random: &mut Random) -> Vec<Vec<usize>> {
 
 /// Compares one plan, made with drawn orders.
 fn compare_one(campaign: &Campaign, random: &mut Random, tally: &mut Tally) {
-    let bytes = campaign.scattered(random.below(4), random);
+    let unused = random.below(4).min(STEPS - campaign.steps.len());
+    let bytes = campaign.scattered(unused, random);
     let sheet = read(&bytes).unwrap();
     let orders = draw_orders(campaign, random);
     let plan = find_support_by(&sheet, |i, u| orders[i - 1][u]);
@@ -60,9 +61,9 @@ fn compare(seed: u64, rounds: usize, units: usize, steps: usize) -> Tally {
 
 #[test]
 fn orders_of_few_units() {
-    let tally = compare(51, 300, FEW, 20);
+    let tally = compare(51, 600, FEW, 20);
     tally.print("ties by drawn orders, few units");
-    tally.require(&[("plans", 2400), ("not the one handed out", 1000)]);
+    tally.require(&[("plans", 4800), ("not the one handed out", 1000)]);
 }
 
 #[test]
