@@ -1,4 +1,4 @@
--- Worked campaigns of two units, computed from the definitions: the plan that is handed out against all plans, and a chart. A definition of another
+-- Worked campaigns of two units or four, computed from the definitions: the plan that is handed out against all plans, its ties, and a chart. A definition of another
 -- planner, as one that fills early, ranks by what is past or by need alone, makes a row false.
 use mathlib.Core.Path.{_≡_, refl}
 use mathlib.Core.Bool.{cond}

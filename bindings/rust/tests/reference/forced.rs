@@ -2,11 +2,9 @@
 //! not be. That no plan has fewer is a fact about FindSupport; the references are compared with each other.
 //!
 //! A forced unit is required (or forbidden) in one more step, which changes its rank up to that step, and no other rank. So the ranks of
-//! the sheet as it is are found once.
+//! the sheet as it is are found once. On a tie the lower number goes first here, which is not the house rule: the totals are the same.
 
-use std::cmp::Reverse;
-
-use super::support::{ban, find_support, house_rule, need, rank, Rank};
+use super::support::{ban, find_support, need, rank, Rank};
 use super::{has, total, warm_ups, Sheet};
 
 pub struct Forced {
@@ -24,15 +22,12 @@ struct Cell {
     on: bool,
 }
 
-/// The place of a unit in the ranking, with the unit.
-type Ranked = Rank<Reverse<usize>>;
-
 /// The units at a step.
 struct Order {
     /// By unit: the next step that needs it, and the next that bans it, from 1.
     next: Vec<(usize, usize)>,
     /// First in rank first.
-    ranks: Vec<Ranked>,
+    ranks: Vec<Rank>,
     /// At place k, the k units that are first in rank.
     first: Vec<u64>,
 }
@@ -40,10 +35,9 @@ struct Order {
 impl Order {
     fn new(sheet: &Sheet, i: usize) -> Order {
         let next: Vec<(usize, usize)> = (0..sheet.units).map(|u| (need(sheet, i, u), ban(sheet, i, u))).collect();
-        let mut ranks: Vec<Ranked> =
-            next.iter().enumerate().map(|(u, &(need, ban))| rank(need, ban, house_rule(u))).collect();
+        let mut ranks: Vec<Rank> = next.iter().enumerate().map(|(u, &(need, ban))| rank(need, ban, u)).collect();
         ranks.sort_unstable();
-        let first = (0..=ranks.len()).map(|k| ranks[..k].iter().map(|rank| 1 << rank.2 .0).sum()).collect();
+        let first = (0..=ranks.len()).map(|k| ranks[..k].iter().map(|rank| 1 << rank.2).sum()).collect();
         Order { next, ranks, first }
     }
 
@@ -65,12 +59,12 @@ impl Order {
         }
     }
 
-    fn forced_rank(&self, cell: Cell) -> Ranked {
+    fn forced_rank(&self, cell: Cell) -> Rank {
         let (need, ban) = self.next[cell.u];
         if cell.on {
-            rank(need.min(cell.step + 1), ban, house_rule(cell.u))
+            rank(need.min(cell.step + 1), ban, cell.u)
         } else {
-            rank(need, ban.min(cell.step + 1), house_rule(cell.u))
+            rank(need, ban.min(cell.step + 1), cell.u)
         }
     }
 }

@@ -1,15 +1,13 @@
 //! FindSupport: the plan that is handed out (docs/FORMAT.md, Plans).
 
-use std::cmp::Reverse;
-
 use super::{has, Sheet};
 
-/// The place of a unit in the ranking, by which units are sorted: its class, its next step, and what decides on a tie.
-pub type Rank<Tie> = (bool, isize, Tie);
+/// The place of a unit in the ranking, by which units are sorted: its class, its next step, and a number for ties.
+pub type Rank = (bool, isize, usize);
 
-/// On a tie the higher number goes first.
-pub fn house_rule(u: usize) -> Reverse<usize> {
-    Reverse(u)
+/// The number for ties by which the higher unit goes first.
+fn house_rule(u: usize) -> usize {
+    usize::MAX - u
 }
 
 /// The plan that is handed out.
@@ -18,7 +16,7 @@ pub fn find_support(sheet: &Sheet) -> Vec<u64> {
 }
 
 /// The plan for which, on a tie at step `i`, from 1, the unit `u` with the lesser `tie(i, u)` goes first.
-pub fn find_support_by<Tie: Ord>(sheet: &Sheet, tie: impl Fn(usize, usize) -> Tie) -> Vec<u64> {
+pub fn find_support_by(sheet: &Sheet, tie: impl Fn(usize, usize) -> usize) -> Vec<u64> {
     let mut before = sheet.start;
     let mut plan = Vec::new();
     for i in 1..=sheet.steps.len() {
@@ -29,7 +27,7 @@ pub fn find_support_by<Tie: Ord>(sheet: &Sheet, tie: impl Fn(usize, usize) -> Ti
 }
 
 /// The set of step `i`, from 1, after the set `before`.
-fn step_set<Tie: Ord>(sheet: &Sheet, i: usize, before: u64, tie: impl Fn(usize) -> Tie) -> u64 {
+fn step_set(sheet: &Sheet, i: usize, before: u64, tie: impl Fn(usize) -> usize) -> u64 {
     let step = &sheet.steps[i - 1];
     let (least, greatest) = (u32::from(step.least), u32::from(step.greatest));
     let ranking = ranking(sheet, i, tie);
@@ -48,14 +46,14 @@ fn step_set<Tie: Ord>(sheet: &Sheet, i: usize, before: u64, tie: impl Fn(usize) 
 }
 
 /// The units at step `i`, first in rank first.
-fn ranking<Tie: Ord>(sheet: &Sheet, i: usize, tie: impl Fn(usize) -> Tie) -> Vec<usize> {
+fn ranking(sheet: &Sheet, i: usize, tie: impl Fn(usize) -> usize) -> Vec<usize> {
     let mut units: Vec<usize> = (0..sheet.units).collect();
-    units.sort_by_cached_key(|&u| rank(need(sheet, i, u), ban(sheet, i, u), tie(u)));
+    units.sort_by_key(|&u| rank(need(sheet, i, u), ban(sheet, i, u), tie(u)));
     units
 }
 
 /// Wanted units before the rest; among wanted ones the earlier need first, among the rest the later ban first; then the lesser `tie`.
-pub fn rank<Tie>(need: usize, ban: usize, tie: Tie) -> Rank<Tie> {
+pub fn rank(need: usize, ban: usize, tie: usize) -> Rank {
     let wanted = need < ban;
     if wanted {
         (false, need as isize, tie)
