@@ -2,7 +2,7 @@
 //! not be. That no plan has fewer is a fact about FindSupport; the references are compared with each other.
 //!
 //! A forced unit is required (or forbidden) in one more step, which changes its rank up to that step, and no other rank. So the ranks of
-//! the sheet as it is are found once. On a tie the lower number goes first here, which is not the house rule: the totals are the same.
+//! the sheet as it is are found once. On a tie the lower number goes first here, whatever the house rule is: the totals are the same.
 
 use super::support::{ban, find_support, need, rank, Rank};
 use super::{has, total, warm_ups, Sheet};
