@@ -1,5 +1,6 @@
-// The sheets that are measured, made from a fixed seed. Each family of sheets scales with the numbers of steps n and units d.
-use crate::library::Step;
+// The sheets that are measured, made from a fixed seed. Each family of sheets scales with the numbers of steps n and units d. In a sheet of edition 2
+// each chamber has steps of the family.
+use crate::library::{ChamberStep, Step, CHAMBERS};
 
 pub struct Random(u64);
 
@@ -146,35 +147,68 @@ impl Family {
 
     // A sheet with a chain that goes through the records in a scrambled order, where n and 77 have no common divisor.
     pub fn sheet(self, n: usize, d: u32, random: &mut Random) -> Vec<u8> {
-        let steps: Vec<Step> = (0..n).map(|i| self.step(random, i, n, d)).collect();
-        write_sheet(&steps, d, |i| 1 + i * 77 % n)
+        let steps: Vec<ChamberStep> = (0..n).map(|i| self.step(random, i, n, d).in_first()).collect();
+        write_sheet(None, &steps, d, |i| 1 + i * 77 % n)
+    }
+
+    // The same in edition 2, with chambers of so many units. Those that are not empty have at least four.
+    pub fn sheet_in(self, n: usize, sizes: [u32; CHAMBERS], random: &mut Random) -> Vec<u8> {
+        let steps: Vec<ChamberStep> = (0..n).map(|i| self.joined_step(random, i, n, sizes)).collect();
+        write_sheet(Some(sizes), &steps, sizes.iter().sum(), |i| 1 + i * 77 % n)
+    }
+
+    fn joined_step(self, random: &mut Random, i: usize, n: usize, sizes: [u32; CHAMBERS]) -> ChamberStep {
+        let (mut joined, mut first) = (ChamberStep { tag: i as u32, ..Default::default() }, 0);
+        for (c, &d) in sizes.iter().enumerate().filter(|&(_, &d)| d > 0) {
+            let part = self.step(random, i, n, d);
+            joined.lower |= part.lower << first;
+            joined.upper |= part.upper << first;
+            (joined.least[c], joined.greatest[c]) = (part.least, part.greatest);
+            first += d;
+        }
+        joined
+    }
+}
+
+impl Step {
+    // As it is read: its numbers are those of chamber 1.
+    fn in_first(self) -> ChamberStep {
+        let Step { lower, upper, least, greatest, tag } = self;
+        ChamberStep { lower, upper, least: [least, 0, 0, 0], greatest: [greatest, 0, 0, 0], tag, reserved: 0 }
     }
 }
 
 // The sheet of examples/four_runs.sheet, in the order of its records.
 pub fn four_runs() -> Vec<u8> {
-    let steps = [1, 2, 4, 1].map(|lower| Step { lower, upper: 7, least: 0, greatest: 2, tag: 0 });
-    write_sheet(&steps, 3, |i| i + 1)
+    let steps = [1, 2, 4, 1].map(|lower| Step { lower, upper: 7, least: 0, greatest: 2, tag: 0 }.in_first());
+    write_sheet(None, &steps, 3, |i| i + 1)
 }
 
-// A sheet with the bound 0 and an empty start set; `place` gives the record of each step.
-fn write_sheet(steps: &[Step], d: u32, place: impl Fn(usize) -> usize) -> Vec<u8> {
+// A sheet of edition 1, or of edition 2 if there are chamber sizes, with the bound 0 and an empty start set; `place` gives the record of each step.
+fn write_sheet(sizes: Option<[u32; CHAMBERS]>, steps: &[ChamberStep], d: u32, place: impl Fn(usize) -> usize) -> Vec<u8> {
     let n = steps.len();
+    let length = if sizes.is_none() { 24 } else { 32 };
     let number = |i: usize| (if i < n { place(i) as u16 } else { 0 }).to_le_bytes();
-    let mut sheet = vec![0; 24 * (n + 1)];
+    let mut sheet = vec![0; 24 + length * n];
     sheet[0..4].copy_from_slice(b"WARM");
-    sheet[4] = 1;
+    sheet[4] = if sizes.is_none() { 1 } else { 2 };
     sheet[5] = d as u8;
     sheet[6..8].copy_from_slice(&(n as u16).to_le_bytes());
     sheet[8..10].copy_from_slice(&number(0));
+    sheet[12..16].copy_from_slice(&sizes.unwrap_or_default().map(|size| size as u8));
     for (i, step) in steps.iter().enumerate() {
-        let record = &mut sheet[24 * place(i)..][..24];
+        let record = &mut sheet[24 + length * (place(i) - 1)..][..length];
         record[0..8].copy_from_slice(&step.lower.to_le_bytes());
         record[8..16].copy_from_slice(&step.upper.to_le_bytes());
-        record[16] = step.least;
-        record[17] = step.greatest;
-        record[18..20].copy_from_slice(&number(i + 1));
-        record[20..24].copy_from_slice(&step.tag.to_le_bytes());
+        if sizes.is_none() {
+            record[16..18].copy_from_slice(&[step.least[0], step.greatest[0]]);
+            record[18..20].copy_from_slice(&number(i + 1));
+        } else {
+            record[16..20].copy_from_slice(&step.least);
+            record[20..24].copy_from_slice(&step.greatest);
+            record[24..26].copy_from_slice(&number(i + 1));
+        }
+        record[length - 4..].copy_from_slice(&step.tag.to_le_bytes());
     }
     sheet
 }

@@ -1,7 +1,21 @@
 // The library as Rust sees it: the types and entries of include/warm.h.
+pub const CHAMBERS: usize = 4;
 pub const STEPS: usize = 256;
-pub const BYTES: usize = 24 * (STEPS + 1);
+pub const BYTES: usize = 24 + 32 * STEPS;
 
+// A step that is read.
+#[repr(C)]
+#[derive(Clone, Copy, Debug, Default, PartialEq)]
+pub struct ChamberStep {
+    pub lower: u64,
+    pub upper: u64,
+    pub least: [u8; CHAMBERS],
+    pub greatest: [u8; CHAMBERS],
+    pub tag: u32,
+    pub reserved: u32,
+}
+
+// A step that is written.
 #[repr(C)]
 #[derive(Clone, Copy, Debug, Default, PartialEq)]
 pub struct Step {
@@ -22,6 +36,7 @@ pub struct StepsReply {
     pub bound: u32,
     pub reserved: u32,
     pub start: u64,
+    pub chambers: [u32; CHAMBERS],
 }
 
 #[repr(C)]
@@ -43,15 +58,15 @@ pub struct Written {
 }
 
 extern "C" {
-    pub fn warm_steps(sheet: *const u8, sheet_len: usize, steps: *mut Step, steps_len: usize) -> StepsReply;
+    pub fn warm_steps_2(sheet: *const u8, sheet_len: usize, steps: *mut ChamberStep, steps_len: usize) -> StepsReply;
     pub fn warm_plan(sheet: *const u8, sheet_len: usize, plan: *mut u64, plan_len: usize) -> Reply;
     pub fn warm_verdict(sheet: *const u8, sheet_len: usize, plan: *const u64, plan_len: usize) -> Reply;
     pub fn warm_chart(sheet: *const u8, sheet_len: usize, on: *mut u64, on_len: usize, off: *mut u64, off_len: usize) -> Reply;
     pub fn warm_write(units: u8, bound: u16, start: u64, steps: *const Step, steps_len: usize, sheet: *mut u8, sheet_len: usize) -> Written;
 }
 
-pub fn steps(sheet: &[u8], list: &mut [Step]) -> StepsReply {
-    unsafe { warm_steps(sheet.as_ptr(), sheet.len(), list.as_mut_ptr(), list.len()) }
+pub fn steps(sheet: &[u8], list: &mut [ChamberStep]) -> StepsReply {
+    unsafe { warm_steps_2(sheet.as_ptr(), sheet.len(), list.as_mut_ptr(), list.len()) }
 }
 
 pub fn plan(sheet: &[u8], out: &mut [u64]) -> Reply {

@@ -1,7 +1,10 @@
-// The benchmark: times of the five entries beside plain Rust, and of the plan beside a scan of single steps, growth, and stack. bench/run builds and
-// starts it, with the stack limits as arguments (NAME BYTES ...). docs/FORMAT.md has the entries.
+// The benchmark: times of the five entries beside plain Rust, and of the plan beside a scan of single steps, for sheets of both editions, growth, and
+// stack; with another archive, its times as well. bench/run builds and starts it, with the stack limits as arguments (NAME BYTES ...). docs/FORMAT.md has
+// the entries.
 mod families;
 mod library;
+#[cfg(other)]
+mod other;
 mod painted;
 mod plain;
 mod plain_chart;
@@ -10,6 +13,7 @@ mod task;
 mod timing;
 
 use families::{four_runs, Family, Random};
+use library::CHAMBERS;
 use task::{task, Entry, Task};
 use timing::{cost_of_clearing, measure, Checker, Times};
 
@@ -33,11 +37,14 @@ const GROWTH_SIZES: [(usize, u32); 7] = [(32, 64), (64, 64), (128, 64), (256, 64
 // Seconds for a row.
 const BUDGET: f64 = 0.15;
 
-// A sheet that is measured.
+// The chambers of the sheets of edition 2: four alike, and one with all units.
+const RACKS: [[u32; CHAMBERS]; 2] = [[16; CHAMBERS], [64, 0, 0, 0]];
+
+// A sheet that is measured. Of edition 1 `units` is their number, of edition 2 the chambers as in '4 of 16'.
 struct Case {
     family: String,
     steps: usize,
-    units: u32,
+    units: String,
     sheet: Vec<u8>,
 }
 
@@ -49,18 +56,28 @@ struct Row<'a> {
 }
 
 fn case(family: Family, steps: usize, units: u32) -> Case {
-    Case { family: family.name(units), steps, units, sheet: family.sheet(steps, units, &mut Random::new()) }
+    Case { family: family.name(units), steps, units: units.to_string(), sheet: family.sheet(steps, units, &mut Random::new()) }
 }
 
 fn time_cases() -> Vec<Case> {
     let sized = |steps, units| Family::ALL.map(|family| case(family, steps, units));
-    let four = Case { family: "Four runs".into(), steps: 4, units: 3, sheet: four_runs() };
+    let four = Case { family: "Four runs".into(), steps: 4, units: "3".into(), sheet: four_runs() };
     sized(256, 64).into_iter().chain(sized(32, 16)).chain([four]).collect()
+}
+
+// Full sheets of edition 2. The name of a family is that of a chamber.
+fn chamber_cases() -> Vec<Case> {
+    let of = |rack: [u32; CHAMBERS]| {
+        let units = format!("{} of {}", rack.iter().filter(|&&size| size > 0).count(), rack[0]);
+        let sheet = |family: Family| family.sheet_in(256, rack, &mut Random::new());
+        Family::ALL.map(|family| Case { family: family.name(rack[0]), steps: 256, units: units.clone(), sheet: sheet(family) })
+    };
+    RACKS.into_iter().flat_map(of).collect()
 }
 
 // Of each number of steps one sheet, as the time does not depend on what is in it.
 fn write_cases() -> Vec<Case> {
-    let four = Case { family: "Four runs".into(), steps: 4, units: 3, sheet: four_runs() };
+    let four = Case { family: "Four runs".into(), steps: 4, units: "3".into(), sheet: four_runs() };
     [(256, 64), (32, 16), (16, 16)].map(|(steps, units)| case(Family::Random, steps, units)).into_iter().chain([four]).collect()
 }
 
@@ -92,12 +109,27 @@ fn some_steps(random: &mut Random) -> usize {
     }
 }
 
-// Drawn sheets of any size, sound and then with a change, for the comparison and the stack.
+// Chambers of four to sixteen units, of which each may be empty, but not all.
+fn some_chambers(random: &mut Random) -> [u32; CHAMBERS] {
+    loop {
+        let sizes = [(); CHAMBERS].map(|()| if random.below(4) == 0 { 0 } else { 4 + random.below(13) });
+        if sizes != [0; CHAMBERS] {
+            return sizes;
+        }
+    }
+}
+
+// Drawn sheets of any size, first of edition 1 and then of edition 2, sound and then with a change, for the comparison and the stack.
 fn check_drawn(checker: &mut Checker) {
     let mut random = Random::new();
-    for _ in 0..300 {
+    for i in 0..600 {
         let family = Family::ALL[random.below(Family::ALL.len() as u32) as usize];
-        let sheet = family.sheet(some_steps(&mut random), 4 + random.below(61), &mut random);
+        let steps = some_steps(&mut random);
+        let sheet = if i < 300 {
+            family.sheet(steps, 4 + random.below(61), &mut random)
+        } else {
+            family.sheet_in(steps, some_chambers(&mut random), &mut random)
+        };
         for (entry, slack, label) in ROWS.into_iter().chain(WRITE_ROW) {
             let mut task = task(entry, &sheet, slack);
             checker.compare(&format!("a drawn sheet, {label}"), &task);
@@ -133,15 +165,46 @@ fn print_times(rows: &[Row]) {
     println!("Microseconds per call: medians, library, plain Rust and scan in turns. Outputs are not cleared between calls.");
     println!("Slack: the bound less the fewest warm-ups. Scan: a plan in plain Rust that looks at one step after the other. Of the scan: the");
     println!("library's time divided by the scan's.\n");
-    println!("| steps | units | sheet            | entry          |   library |     plain | ratio |      scan | of the scan |");
-    println!("|------:|------:|:-----------------|:---------------|----------:|----------:|------:|----------:|------------:|");
+    print_table(rows, "units");
+}
+
+fn print_chamber_times(rows: &[Row]) {
+    println!("\nThe same for sheets of edition 2. Each chamber that is not empty has steps of the kind that is named.\n");
+    print_table(rows, "chambers");
+}
+
+// The rows with a column of that name for units or chambers.
+fn print_table(rows: &[Row], column: &str) {
+    let width = column.len();
+    println!("| steps | {column} | sheet            | entry          |   library |     plain | ratio |      scan | of the scan |");
+    println!("|------:|-{:-<width$}:|:-----------------|:---------------|----------:|----------:|------:|----------:|------------:|", "");
     for Row { case, label, task } in rows {
         let times @ Times { library, plain, .. } = measure(task, BUDGET);
         let (Case { family, steps, units, .. }, ratio, (scan, of_scan)) = (case, library / plain, scan_cells(&times));
-        print!("| {steps:5} | {units:5} | {family:16} | {label:14} | {:>9} | {:>9} | {ratio:5.2} |", digits(library), digits(plain));
+        print!("| {steps:5} | {units:>width$} | {family:16} | {label:14} | {:>9} | {:>9} | {ratio:5.2} |", digits(library), digits(plain));
         println!(" {scan:>9} | {of_scan:>11} |");
     }
 }
+
+// The rows that another archive knows, beside its times.
+#[cfg(other)]
+fn print_beside_other(rows: &[&Row]) {
+    let rows: Vec<&&Row> = rows.iter().filter(|row| other::knows(&row.task)).collect();
+    for Row { case, label, task } in &rows {
+        other::must_agree(task, &format!("{}, {} steps, {label}", case.family, case.steps));
+    }
+    println!("\nMicroseconds per call of the library and of the archive in WARM_OTHER_DIR, in turns, and the difference.\n");
+    println!("| steps |   units | sheet            | entry          |   library |     other | difference |");
+    println!("|------:|--------:|:-----------------|:---------------|----------:|----------:|-----------:|");
+    for Row { case: Case { family, steps, units, .. }, label, task } in rows {
+        let [library, other] = timing::measure_beside_other(task, BUDGET);
+        print!("| {steps:5} | {units:>7} | {family:16} | {label:14} | {:>9} | {:>9} |", digits(library), digits(other));
+        println!(" {:>10.2} |", library - other);
+    }
+}
+
+#[cfg(not(other))]
+fn print_beside_other(_: &[&Row]) {}
 
 fn print_clearing(rows: &[Row]) {
     let row = rows.iter().find(|row| row.task.entry == Entry::Plan && row.case.family == "any set").expect("a plan of any set");
@@ -179,7 +242,7 @@ fn print_stack(checker: &Checker, arguments: &[String]) {
     println!("| entry        | measured |  limit |");
     println!("|:-------------|---------:|-------:|");
     for entry in Entry::ALL {
-        let (name, measured, limit) = (entry.name(), checker.deepest[entry as usize], limit(arguments, entry.name()));
+        let (name, measured, limit) = (entry.name(), checker.deepest[entry as usize], limit(arguments, entry.symbol()));
         println!("| {name:12} | {:>8} | {:>6} |", grouped(&measured.to_string()), grouped(&limit.to_string()));
         assert!(measured <= limit, "{name} used more stack than its limit");
     }
@@ -189,12 +252,15 @@ fn main() {
     let arguments: Vec<String> = std::env::args().skip(1).collect();
     let mut checker = Checker::new();
     check_drawn(&mut checker);
-    let (times, writes, growth) = (time_cases(), write_cases(), growth_cases());
+    let (times, writes, in_chambers, growth) = (time_cases(), write_cases(), chamber_cases(), growth_cases());
     let mut time_rows = checked_rows(&mut checker, &times, &ROWS);
     time_rows.extend(checked_rows(&mut checker, &writes, &WRITE_ROW));
+    let chamber_rows = checked_rows(&mut checker, &in_chambers, &ROWS);
     let growth_rows = checked_rows(&mut checker, &growth, &GROWTH_ROWS);
     print_times(&time_rows);
     print_clearing(&time_rows);
+    print_chamber_times(&chamber_rows);
     print_growth(&growth_rows);
+    print_beside_other(&time_rows.iter().chain(&chamber_rows).collect::<Vec<_>>());
     print_stack(&checker, &arguments);
 }

@@ -1,7 +1,8 @@
 // The five entries in plain Rust: the same checks, walks, choices and replies as the library, for comparison. docs/FORMAT.md has the sheet,
-// the refusals and the planner. The chart is in plain_chart.rs; it uses the columns of the plan. scan.rs has another way to make a plan.
+// the refusals and the planner. A chamber is planned by itself, and the parts are joined. The chart is in plain_chart.rs; it uses the columns of the
+// plan. scan.rs has another way to make a plan.
 #![forbid(unsafe_code)]
-use crate::library::{Reply, Step, StepsReply, Written, STEPS};
+use crate::library::{ChamberStep, Reply, Step, StepsReply, Written, BYTES, CHAMBERS, STEPS};
 use crate::plain_chart;
 
 pub struct Refusal(u32, u32);
@@ -10,10 +11,12 @@ pub struct Refusal(u32, u32);
 pub struct Summary {
     pub n: usize,
     pub units: u32,
+    pub sizes: [u8; CHAMBERS],
     pub bound: u32,
     pub start: u64,
 }
 
+// The steps of a chamber, with the sizes of the chamber's feasible sets in the place of its two numbers.
 pub struct Columns {
     pub lower: [u64; STEPS],
     pub upper: [u64; STEPS],
@@ -21,7 +24,14 @@ pub struct Columns {
     pub greatest: [u8; STEPS],
 }
 
-// ---- the sheet
+// A chamber that has units: its number from 0, and its units.
+#[derive(Clone, Copy)]
+struct Chamber {
+    number: usize,
+    units: u64,
+}
+
+// ---- the sheet: each walk along the chain is made for one edition
 
 fn u16_at(s: &[u8], at: usize) -> usize {
     u16::from_le_bytes(s[at..at + 2].try_into().unwrap()) as usize
@@ -35,36 +45,91 @@ fn u64_at(s: &[u8], at: usize) -> u64 {
     u64::from_le_bytes(s[at..at + 8].try_into().unwrap())
 }
 
-// The number of the record after record j, or of the first one where j is 0.
-fn follow(s: &[u8], j: usize) -> usize {
-    u16_at(s, if j == 0 { 8 } else { 24 * j + 18 })
+const fn record_size(edition: u8) -> usize {
+    if edition == 1 {
+        24
+    } else {
+        32
+    }
 }
 
-fn step_at(s: &[u8], j: usize) -> Step {
-    let record = &s[24 * j..24 * j + 24];
-    Step { lower: u64_at(record, 0), upper: u64_at(record, 8), least: record[16], greatest: record[17], tag: u32_at(record, 20) }
+fn record<const EDITION: u8>(s: &[u8], j: usize) -> &[u8] {
+    let size = record_size(EDITION);
+    let at = 24 + size * (j - 1);
+    &s[at..at + size]
+}
+
+// The number of the record after record j, or of the first one where j is 0.
+fn follow<const EDITION: u8>(s: &[u8], j: usize) -> usize {
+    let next = if EDITION == 1 { 18 } else { 24 };
+    u16_at(s, if j == 0 { 8 } else { 24 + record_size(EDITION) * (j - 1) + next })
+}
+
+// The least and the greatest number of a chamber.
+fn counts<const EDITION: u8>(record: &[u8], chamber: usize) -> (u8, u8) {
+    if EDITION == 1 {
+        (record[16], record[17])
+    } else {
+        (record[16 + chamber], record[20 + chamber])
+    }
+}
+
+fn step_in<const EDITION: u8>(record: &[u8]) -> ChamberStep {
+    let (lower, upper) = (u64_at(record, 0), u64_at(record, 8));
+    let (least, greatest, tag) = if EDITION == 1 {
+        ([record[16], 0, 0, 0], [record[17], 0, 0, 0], u32_at(record, 20))
+    } else {
+        (u32_at(record, 16).to_le_bytes(), u32_at(record, 20).to_le_bytes(), u32_at(record, 28))
+    };
+    ChamberStep { lower, upper, least, greatest, tag, reserved: 0 }
 }
 
 fn has_unit_from(set: u64, d: u32) -> bool {
     d < 64 && set >> d != 0
 }
 
-// The least and the greatest size of a feasible set.
-fn feasible_sizes(x: &Step) -> Option<(u8, u8)> {
-    let few = x.least.max(x.lower.count_ones() as u8);
-    let many = x.greatest.min(x.upper.count_ones() as u8);
-    (x.lower & !x.upper == 0 && few <= many).then_some((few, many))
+fn units_below(d: u32) -> u64 {
+    u64::MAX.checked_shr(64 - d).unwrap_or(0)
 }
 
-// Refusals 1 to 3.
+// The units of each chamber, dealt out in order.
+fn dealt(sizes: [u8; CHAMBERS]) -> [u64; CHAMBERS] {
+    let mut first = 0;
+    sizes.map(|size| {
+        let before = units_below(first);
+        first += size as u32;
+        units_below(first) & !before
+    })
+}
+
+// The chambers that have units.
+fn chambers(sizes: [u8; CHAMBERS]) -> impl Iterator<Item = Chamber> {
+    dealt(sizes).into_iter().enumerate().filter(|&(_, units)| units != 0).map(|(number, units)| Chamber { number, units })
+}
+
+// The least and the greatest number of a chamber's units in its part of a feasible set; there is none if the first is above the second.
+fn feasible_sizes(lower: u64, upper: u64, (least, greatest): (u8, u8)) -> (u8, u8) {
+    (least.max(lower.count_ones() as u8), greatest.min(upper.count_ones() as u8))
+}
+
+// The sizes of the chambers: in edition 1 all units are in the first.
+fn sizes(s: &[u8]) -> [u8; CHAMBERS] {
+    if s[4] == 1 {
+        [s[5], 0, 0, 0]
+    } else {
+        u32_at(s, 12).to_le_bytes()
+    }
+}
+
+// Refusals 1 to 3 and 13.
 fn check_header(s: &[u8]) -> Result<(), Refusal> {
-    if s.len() < 24 || s.len() > 24 * (STEPS + 1) {
+    if s.len() < 24 || s.len() > BYTES {
         return Err(Refusal(1, 0));
     }
     if &s[0..4] != b"WARM" {
         return Err(Refusal(2, 0));
     }
-    if s[4] != 1 {
+    if s[4] != 1 && s[4] != 2 {
         return Err(Refusal(2, 4));
     }
     let (units, records) = (s[5] as u32, u16_at(s, 6));
@@ -74,24 +139,27 @@ fn check_header(s: &[u8]) -> Result<(), Refusal> {
     if records > STEPS {
         return Err(Refusal(3, 6));
     }
-    if u32_at(s, 12) != 0 {
+    if s[4] == 1 && u32_at(s, 12) != 0 {
         return Err(Refusal(3, 12));
+    }
+    if sizes(s).iter().map(|&size| size as u32).sum::<u32>() != units {
+        return Err(Refusal(13, 12));
     }
     if has_unit_from(u64_at(s, 16), units) {
         return Err(Refusal(3, 16));
     }
-    if s.len() != 24 * (records + 1) {
+    if s.len() != 24 + record_size(s[4]) * records {
         return Err(Refusal(3, 24));
     }
     Ok(())
 }
 
 // Refusals 4 and 5, or how many records are on the chain.
-fn walk(s: &[u8], records: usize) -> Result<usize, Refusal> {
+fn walk<const EDITION: u8>(s: &[u8], records: usize) -> Result<usize, Refusal> {
     let mut marks = [0u64; 4];
     let (mut at, mut n) = (0, 0);
     loop {
-        let next = follow(s, at);
+        let next = follow::<EDITION>(s, at);
         if next == 0 {
             return Ok(n);
         }
@@ -108,42 +176,70 @@ fn walk(s: &[u8], records: usize) -> Result<usize, Refusal> {
     }
 }
 
-// Refusals 6 and 7.
-fn check_steps(s: &[u8], n: usize, units: u32) -> Result<(), Refusal> {
+// Refusals 14, 6 and 7.
+fn check_steps<const EDITION: u8>(s: &[u8], n: usize, units: u32) -> Result<(), Refusal> {
+    let chambers = dealt(sizes(s));
+    let with_units = if EDITION == 1 { 1 } else { CHAMBERS };
     let mut at = 0;
     for i in 1..=n as u32 {
-        at = follow(s, at);
-        let x = step_at(s, at);
-        if has_unit_from(x.upper, units) {
+        at = follow::<EDITION>(s, at);
+        let record = record::<EDITION>(s, at);
+        if EDITION == 2 && u16_at(record, 26) != 0 {
+            return Err(Refusal(14, i));
+        }
+        let (lower, upper) = (u64_at(record, 0), u64_at(record, 8));
+        if has_unit_from(upper, units) {
             return Err(Refusal(6, i));
         }
-        if feasible_sizes(&x).is_none() {
+        // of an empty chamber, too: it has no unit for a least number
+        let fits = |c: usize| {
+            let (few, many) = feasible_sizes(lower & chambers[c], upper & chambers[c], counts::<EDITION>(record, c));
+            few <= many
+        };
+        if lower & !upper != 0 || !(0..with_units).all(fits) {
             return Err(Refusal(7, i));
         }
     }
     Ok(())
 }
 
-fn read(s: &[u8]) -> Result<Summary, Refusal> {
-    check_header(s)?;
+fn read_chain<const EDITION: u8>(s: &[u8]) -> Result<Summary, Refusal> {
     let units = s[5] as u32;
-    let n = walk(s, u16_at(s, 6))?;
-    check_steps(s, n, units)?;
-    Ok(Summary { n, units, bound: u16_at(s, 10) as u32, start: u64_at(s, 16) })
+    let n = walk::<EDITION>(s, u16_at(s, 6))?;
+    check_steps::<EDITION>(s, n, units)?;
+    Ok(Summary { n, units, sizes: sizes(s), bound: u16_at(s, 10) as u32, start: u64_at(s, 16) })
 }
 
-// The steps of a sheet that was read, as columns, with the sizes of their feasible sets in the place of their two numbers.
-fn columns(s: &[u8], n: usize) -> Columns {
+fn read(s: &[u8]) -> Result<Summary, Refusal> {
+    check_header(s)?;
+    if s[4] == 1 {
+        read_chain::<1>(s)
+    } else {
+        read_chain::<2>(s)
+    }
+}
+
+// A chamber's part of the steps of a sheet that was read, as columns.
+fn decoded<const EDITION: u8>(s: &[u8], n: usize, chamber: Chamber) -> Columns {
     let mut c = Columns { lower: [0; STEPS], upper: [0; STEPS], least: [0; STEPS], greatest: [0; STEPS] };
     let mut at = 0;
     for i in 0..n {
-        at = follow(s, at);
-        let x = step_at(s, at);
-        c.lower[i] = x.lower;
-        c.upper[i] = x.upper;
-        (c.least[i], c.greatest[i]) = feasible_sizes(&x).unwrap_or((x.least, x.greatest));
+        at = follow::<EDITION>(s, at);
+        let record = record::<EDITION>(s, at);
+        let (lower, upper) = (u64_at(record, 0) & chamber.units, u64_at(record, 8) & chamber.units);
+        c.lower[i] = lower;
+        c.upper[i] = upper;
+        (c.least[i], c.greatest[i]) = feasible_sizes(lower, upper, counts::<EDITION>(record, chamber.number));
     }
     c
+}
+
+fn columns(s: &[u8], n: usize, chamber: Chamber) -> Columns {
+    if s[4] == 1 {
+        decoded::<1>(s, n, chamber)
+    } else {
+        decoded::<2>(s, n, chamber)
+    }
 }
 
 // ---- the planner
@@ -310,46 +406,80 @@ impl Sets<'_> {
     }
 }
 
-// Fills the plan, and gives its total.
-fn make_plan(c: &Columns, x: &Summary, out: &mut [u64]) -> u32 {
-    let sets = Sets::new(&c.lower[..x.n], &c.upper[..x.n]);
-    let (mut before, mut total) = (x.start, 0);
-    for i in 0..x.n {
+// Joins the plan of a chamber, with these units on before the first step, to what the output holds, and gives its total.
+fn join_plan(c: &Columns, start: u64, out: &mut [u64]) -> u32 {
+    let n = out.len();
+    let sets = Sets::new(&c.lower[..n], &c.upper[..n]);
+    let (mut before, mut total) = (start, 0);
+    for i in 0..n {
         let set = sets.step_set(i, c.least[i], c.greatest[i], before);
         total += (set & !before).count_ones();
-        out[i] = set;
+        out[i] |= set;
         before = set;
     }
     total
 }
 
-fn allows(c: &Columns, i: usize, set: u64) -> bool {
-    c.lower[i] & !set == 0 && set & !c.upper[i] == 0 && (c.least[i] as u32..=c.greatest[i] as u32).contains(&set.count_ones())
+// Whether a set is feasible in the step of a record.
+fn allows<const EDITION: u8>(record: &[u8], chambers: &[u64; CHAMBERS], set: u64) -> bool {
+    let within = |c: usize| {
+        let (least, greatest) = counts::<EDITION>(record, c);
+        (least as u32..=greatest as u32).contains(&(set & chambers[c]).count_ones())
+    };
+    let with_units = if EDITION == 1 { 1 } else { CHAMBERS };
+    u64_at(record, 0) & !set == 0 && set & !u64_at(record, 8) == 0 && (0..with_units).all(within)
+}
+
+// Whether all sets of a plan are feasible, and its total.
+fn judged<const EDITION: u8>(s: &[u8], x: &Summary, plan: &[u64]) -> (bool, u32) {
+    let chambers = dealt(x.sizes);
+    let (mut at, mut before, mut total, mut feasible) = (0, x.start, 0, true);
+    for &set in plan {
+        at = follow::<EDITION>(s, at);
+        feasible &= allows::<EDITION>(record::<EDITION>(s, at), &chambers, set);
+        total += (set & !before).count_ones();
+        before = set;
+    }
+    (feasible, total)
 }
 
 // ---- the entries
 
-fn steps_reply(sheet: &[u8], list: &mut [Step]) -> Result<StepsReply, Refusal> {
+fn list_steps<const EDITION: u8>(sheet: &[u8], list: &mut [ChamberStep]) {
+    let mut at = 0;
+    for step in list {
+        at = follow::<EDITION>(sheet, at);
+        *step = step_in::<EDITION>(record::<EDITION>(sheet, at));
+    }
+}
+
+fn steps_reply(sheet: &[u8], list: &mut [ChamberStep]) -> Result<StepsReply, Refusal> {
     let x = read(sheet)?;
     if list.len() < x.n {
         return Err(Refusal(8, x.n as u32));
     }
-    let mut at = 0;
-    for step in &mut list[..x.n] {
-        at = follow(sheet, at);
-        *step = step_at(sheet, at);
+    if sheet[4] == 1 {
+        list_steps::<1>(sheet, &mut list[..x.n]);
+    } else {
+        list_steps::<2>(sheet, &mut list[..x.n]);
     }
-    Ok(StepsReply { units: x.units, steps: x.n as u32, bound: x.bound, start: x.start, ..Default::default() })
+    let chambers = x.sizes.map(|size| size as u32);
+    Ok(StepsReply { units: x.units, steps: x.n as u32, bound: x.bound, start: x.start, chambers, ..Default::default() })
 }
 
-// The reply with the plan that `make` fills in.
-pub fn plan_reply(sheet: &[u8], out: &mut [u64], make: impl Fn(&Columns, &Summary, &mut [u64]) -> u32) -> Result<Reply, Refusal> {
+// Joins the plans of all chambers, by `join`, and gives their total.
+fn join_plans(sheet: &[u8], x: &Summary, out: &mut [u64], join: impl Fn(&Columns, u64, &mut [u64]) -> u32) -> u32 {
+    chambers(x.sizes).map(|chamber| join(&columns(sheet, x.n, chamber), x.start & chamber.units, &mut out[..x.n])).sum()
+}
+
+// The reply with the plan whose parts `join` makes.
+pub fn plan_reply(sheet: &[u8], out: &mut [u64], join: impl Fn(&Columns, u64, &mut [u64]) -> u32) -> Result<Reply, Refusal> {
     let x = read(sheet)?;
     if out.len() < x.n {
         return Err(Refusal(8, x.n as u32));
     }
     let mut sets = [0; STEPS];
-    let total = make(&columns(sheet, x.n), &x, &mut sets);
+    let total = join_plans(sheet, &x, &mut sets, join);
     if total > x.bound {
         return Err(Refusal(9, total));
     }
@@ -362,13 +492,7 @@ fn verdict_reply(sheet: &[u8], plan: &[u64]) -> Result<Reply, Refusal> {
     if plan.len() != x.n {
         return Err(Refusal(10, x.n as u32));
     }
-    let c = columns(sheet, x.n);
-    let (mut before, mut total, mut feasible) = (x.start, 0, true);
-    for (i, &set) in plan.iter().enumerate() {
-        feasible &= allows(&c, i, set);
-        total += (set & !before).count_ones();
-        before = set;
-    }
+    let (feasible, total) = if sheet[4] == 1 { judged::<1>(sheet, &x, plan) } else { judged::<2>(sheet, &x, plan) };
     Ok(Reply { total, accepted: (feasible && total <= x.bound) as u32, ..Default::default() })
 }
 
@@ -378,12 +502,18 @@ fn chart_reply(sheet: &[u8], on: &mut [u64], off: &mut [u64]) -> Result<Reply, R
         return Err(Refusal(8, x.n as u32));
     }
     let mut sets = [0; STEPS];
-    let c = columns(sheet, x.n);
-    let total = make_plan(&c, &x, &mut sets);
+    let total = join_plans(sheet, &x, &mut sets, join_plan);
     if total > x.bound {
         return Err(Refusal(9, total));
     }
-    plain_chart::chart(&c, &x, total, &sets, on, off);
+    let (on, off) = (&mut on[..x.n], &mut off[..x.n]);
+    on.fill(0);
+    off.fill(0);
+    for chamber in chambers(x.sizes) {
+        let part = sets.map(|set| set & chamber.units);
+        let planned = plain_chart::Planned { columns: &columns(sheet, x.n, chamber), start: x.start & chamber.units, plan: &part[..x.n] };
+        plain_chart::join(&planned, x.bound - total, chamber.units, on, off);
+    }
     Ok(Reply { total, ..Default::default() })
 }
 
@@ -425,13 +555,13 @@ pub fn refused(Refusal(refusal, place): Refusal) -> Reply {
 }
 
 #[inline(never)]
-pub fn steps(sheet: &[u8], list: &mut [Step]) -> StepsReply {
+pub fn steps(sheet: &[u8], list: &mut [ChamberStep]) -> StepsReply {
     steps_reply(sheet, list).unwrap_or_else(|Refusal(refusal, place)| StepsReply { refusal, place, ..Default::default() })
 }
 
 #[inline(never)]
 pub fn plan(sheet: &[u8], out: &mut [u64]) -> Reply {
-    plan_reply(sheet, out, make_plan).unwrap_or_else(refused)
+    plan_reply(sheet, out, join_plan).unwrap_or_else(refused)
 }
 
 #[inline(never)]

@@ -1,9 +1,9 @@
-// The chart in plain Rust, from the same tables as the library's (crates/tables/specs/Tables.antt says what each holds). With two switches or more to
+// The chart of a chamber in plain Rust, from the same tables as the library's (crates/tables/specs/Tables.antt says what each holds). With two switches or more to
 // spare a step decides alone. With fewer, a forward pass keeps the rows after every sixteenth step; then the blocks of sixteen steps are taken from
 // the last to the first: the rows of a block are made anew from those kept before it, and its words are read on the way back.
 #![forbid(unsafe_code)]
 use crate::library::STEPS;
-use crate::plain::{Columns, Summary};
+use crate::plain::Columns;
 use std::iter::from_fn;
 
 const UNITS: usize = 64;
@@ -41,17 +41,13 @@ fn only_if(test: bool, word: u64) -> u64 {
     }
 }
 
-fn all_units(d: u32) -> u64 {
-    u64::MAX >> (64 - d)
-}
-
 // ---- a step of the plan
 
 // A plan with the steps that it is for.
-struct Planned<'a> {
-    columns: &'a Columns,
-    start: u64,
-    plan: &'a [u64],
+pub struct Planned<'a> {
+    pub columns: &'a Columns,
+    pub start: u64,
+    pub plan: &'a [u64],
 }
 
 // One step of the plan.
@@ -199,7 +195,9 @@ fn from_tables(p: &Planned, tight: bool, all: u64, on: &mut [u64], off: &mut [u6
         turn_block(p, first, last, &mut rows);
         for i in (first..last).rev() {
             let (x, at) = (p.turn(i), i - first);
-            (on[i], off[i]) = words(&x, tight, all, &rows[at + 1], &later);
+            let (can_be_on, can_be_off) = words(&x, tight, all, &rows[at + 1], &later);
+            on[i] |= can_be_on;
+            off[i] |= can_be_off;
             later.step_back(&x);
         }
     }
@@ -209,17 +207,16 @@ fn from_tables(p: &Planned, tight: bool, all: u64, on: &mut [u64], off: &mut [u6
 fn from_steps(c: &Columns, n: usize, all: u64, on: &mut [u64], off: &mut [u64]) {
     for i in 0..n {
         let (lower, upper) = (c.lower[i], c.upper[i]);
-        on[i] = if lower.count_ones() < c.greatest[i] as u32 { upper } else { lower };
-        off[i] = all & !(if upper.count_ones() > c.least[i] as u32 { lower } else { upper });
+        on[i] |= if lower.count_ones() < c.greatest[i] as u32 { upper } else { lower };
+        off[i] |= all & !(if upper.count_ones() > c.least[i] as u32 { lower } else { upper });
     }
 }
 
-// Fills the first places of `on` and `off`. The plan is within the bound.
-pub fn chart(columns: &Columns, x: &Summary, total: u32, plan: &[u64], on: &mut [u64], off: &mut [u64]) {
-    let (slack, all) = (x.bound - total, all_units(x.units));
+// Joins the chart of a chamber, with so many warm-ups to spare, to what `on` and `off` hold. `all` are its units.
+pub fn join(p: &Planned, slack: u32, all: u64, on: &mut [u64], off: &mut [u64]) {
     if slack >= 2 {
-        from_steps(columns, x.n, all, on, off);
+        from_steps(p.columns, p.plan.len(), all, on, off);
     } else {
-        from_tables(&Planned { columns, start: x.start, plan: &plan[..x.n] }, slack == 0, all, on, off);
+        from_tables(p, slack == 0, all, on, off);
     }
 }

@@ -2,7 +2,7 @@
 // the measure of what that gains. The sheet is read as in plain.rs, and the plan is the same.
 #![forbid(unsafe_code)]
 use crate::library::Reply;
-use crate::plain::{plan_reply, refused, Columns, Summary};
+use crate::plain::{plan_reply, refused, Columns};
 
 // The k units of a set that go first on a tie, which are its highest, or its k lowest.
 fn by_tie(mut rest: u64, k: u32, last: bool) -> u64 {
@@ -52,14 +52,15 @@ fn step_set(lower: &[u64], upper: &[u64], least: u8, greatest: u8, before: u64) 
     }
 }
 
-// Fills the plan, and gives its total.
-fn make_plan(c: &Columns, x: &Summary, out: &mut [u64]) -> u32 {
-    let (lower, upper) = (&c.lower[..x.n], &c.upper[..x.n]);
-    let (mut before, mut total) = (x.start, 0);
-    for i in 0..x.n {
+// Joins the plan of a chamber, with these units on before the first step, to what the output holds, and gives its total.
+fn join_plan(c: &Columns, start: u64, out: &mut [u64]) -> u32 {
+    let n = out.len();
+    let (lower, upper) = (&c.lower[..n], &c.upper[..n]);
+    let (mut before, mut total) = (start, 0);
+    for i in 0..n {
         let set = step_set(&lower[i..], &upper[i..], c.least[i], c.greatest[i], before);
         total += (set & !before).count_ones();
-        out[i] = set;
+        out[i] |= set;
         before = set;
     }
     total
@@ -67,5 +68,5 @@ fn make_plan(c: &Columns, x: &Summary, out: &mut [u64]) -> u32 {
 
 #[inline(never)]
 pub fn plan(sheet: &[u8], out: &mut [u64]) -> Reply {
-    plan_reply(sheet, out, make_plan).unwrap_or_else(refused)
+    plan_reply(sheet, out, join_plan).unwrap_or_else(refused)
 }

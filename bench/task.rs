@@ -1,6 +1,6 @@
 // One measured call: an entry with its inputs, made to the library, to plain Rust, to the scan, or to the library on a painted stack.
 use crate::families::{set_bound, Random};
-use crate::library::{self, Reply, Step, StepsReply, Written, BYTES, STEPS};
+use crate::library::{self, ChamberStep, Reply, Step, StepsReply, Written, BYTES, STEPS};
 use crate::painted::Painted;
 use crate::plain;
 use crate::scan;
@@ -19,6 +19,14 @@ impl Entry {
 
     pub fn name(self) -> &'static str {
         ["warm_steps", "warm_plan", "warm_verdict", "warm_chart", "warm_write"][self as usize]
+    }
+
+    // Its name in the archive.
+    pub fn symbol(self) -> &'static str {
+        match self {
+            Entry::Steps => "warm_steps_2",
+            _ => self.name(),
+        }
     }
 }
 
@@ -45,19 +53,19 @@ pub struct Task {
 // The lent outputs and the reply. They are not cleared between calls.
 #[derive(Clone, PartialEq)]
 pub struct Outputs {
-    list: [Step; STEPS],
-    first: [u64; STEPS],
-    second: [u64; STEPS],
-    sheet: [u8; BYTES],
-    steps_reply: StepsReply,
-    reply: Reply,
-    written: Written,
+    pub list: [ChamberStep; STEPS],
+    pub first: [u64; STEPS],
+    pub second: [u64; STEPS],
+    pub sheet: [u8; BYTES],
+    pub steps_reply: StepsReply,
+    pub reply: Reply,
+    pub written: Written,
 }
 
 impl Outputs {
     pub fn new() -> Outputs {
         Outputs {
-            list: [Step::default(); STEPS],
+            list: [ChamberStep::default(); STEPS],
             first: [0; STEPS],
             second: [0; STEPS],
             sheet: [0; BYTES],
@@ -110,11 +118,11 @@ pub fn call_scan(task: &Task, out: &mut Outputs) {
 pub fn call_painted(task: &Task, out: &mut Outputs, painted: &mut Painted) -> usize {
     let (sheet, len) = (task.sheet.as_ptr() as usize, task.sheet.len());
     let (first, second) = (out.first.as_mut_ptr() as usize, out.second.as_mut_ptr() as usize);
-    // a reply of 32 bytes goes to the address in the first word, one of 16 bytes comes in two registers
+    // a reply of 48 bytes goes to the address in the first word, one of 16 bytes comes in two registers
     let (entry, words) = match task.entry {
         Entry::Steps => {
             let reply = &mut out.steps_reply as *mut StepsReply as usize;
-            (library::warm_steps as *const () as usize, [reply, sheet, len, out.list.as_mut_ptr() as usize, STEPS, 0, 0])
+            (library::warm_steps_2 as *const () as usize, [reply, sheet, len, out.list.as_mut_ptr() as usize, STEPS, 0, 0])
         }
         Entry::Plan => (library::warm_plan as *const () as usize, [sheet, len, first, STEPS, 0, 0, 0]),
         Entry::Verdict => (library::warm_verdict as *const () as usize, [sheet, len, task.plan.as_ptr() as usize, task.plan.len(), 0, 0, 0]),
@@ -143,7 +151,7 @@ pub fn best_plan(sheet: &[u8]) -> (Vec<u64>, u32) {
     let mut plan = vec![0; STEPS];
     let reply = library::plan(&sheet, &mut plan);
     assert_eq!(reply.refusal, 0, "a made sheet is refused");
-    plan.truncate(sheet.len() / 24 - 1);
+    plan.truncate(handed(&sheet).steps.len());
     (plan, reply.total)
 }
 
@@ -156,12 +164,13 @@ pub fn task(entry: Entry, sheet: &[u8], slack: u32) -> Task {
     Task { entry, sheet, plan, handed }
 }
 
-// What a sheet says, as the library reads it, with an output that is as long as a sheet can be.
+// What a sheet says, as the library reads it, with the numbers of chamber 1 alone and an output that is as long as a sheet can be.
 fn handed(sheet: &[u8]) -> Handed {
-    let mut steps = vec![Step::default(); STEPS];
-    let said = library::steps(sheet, &mut steps);
+    let mut list = [ChamberStep::default(); STEPS];
+    let said = library::steps(sheet, &mut list);
     assert_eq!(said.refusal, 0, "a made sheet is refused");
-    steps.truncate(said.steps as usize);
+    let first = |x: &ChamberStep| Step { lower: x.lower, upper: x.upper, least: x.least[0], greatest: x.greatest[0], tag: x.tag };
+    let steps = list[..said.steps as usize].iter().map(first).collect();
     Handed { units: said.units as u8, bound: said.bound as u16, start: said.start, steps, places: BYTES }
 }
 

@@ -110,6 +110,12 @@ pub fn measure(task: &Task, budget: f64) -> Times {
     }
 }
 
+// Times of the library and of another archive, for about so many seconds.
+#[cfg(other)]
+pub fn measure_beside_other(task: &Task, budget: f64) -> [f64; 2] {
+    in_turns([call_library, crate::other::call], task, budget)
+}
+
 fn call_cleared(task: &Task, out: &mut Outputs) {
     out.clear_words();
     call_library(task, black_box(out));

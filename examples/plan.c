@@ -58,7 +58,7 @@ int main(int argc, char **argv)
 {
     /* one byte more than the longest sheet, so that a longer input is seen to be too long */
     static uint8_t sheet[WARM_BYTES + 1];
-    static warm_step steps[WARM_STEPS];
+    static warm_chamber_step steps[WARM_STEPS];
     static uint64_t sets[WARM_STEPS], on[WARM_STEPS], off[WARM_STEPS];
     if (argc != 1) {
         fprintf(stderr, "usage: %s <SHEET\n", argv[0]);

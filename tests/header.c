@@ -1,7 +1,7 @@
 /*
- * Calls the five entries from C as include/warm.h declares them. Each buffer ends where memory that may not be touched begins, so that a read or
- * a write beyond it ends the program. What each call must reply is written out by hand, but for examples/four_runs.sheet, which comes on standard
- * input. Ends with status 1 at the first difference.
+ * Calls the five entries from C as include/warm.h declares them, on sheets of both editions. Each buffer ends where memory that may not be touched
+ * begins, so that a read or a write beyond it ends the program. What each call must reply is written out by hand, but for examples/four_runs.sheet,
+ * which comes on standard input. Ends with status 1 at the first difference.
  */
 #define _DEFAULT_SOURCE
 #include "warm.h"
@@ -53,10 +53,11 @@ static void put(uint8_t *at, int bytes, uint64_t value)
         at[i] = (uint8_t)(value >> 8 * i);
 }
 
-static void put_header(uint8_t *sheet, unsigned units, unsigned records, unsigned bound)
+static void put_header(uint8_t *sheet, unsigned edition, unsigned units, unsigned records, unsigned bound)
 {
     memset(sheet, 0, 24);
-    memcpy(sheet, "WARM\1", 5);
+    memcpy(sheet, "WARM", 4);
+    put(sheet + 4, 1, edition);
     put(sheet + 5, 1, units);
     put(sheet + 6, 2, records);
     put(sheet + 8, 2, records != 0);
@@ -64,11 +65,11 @@ static void put_header(uint8_t *sheet, unsigned units, unsigned records, unsigne
 }
 
 /* Four runs that need unit 0, 1, 2 and 0 again, two of three units on at the most; the tag of run j is j. */
-static const uint8_t *four_runs(unsigned bound)
+static uint8_t *four_runs(unsigned bound)
 {
     static const uint64_t lower[4] = { 1, 2, 4, 1 };
     uint8_t *sheet = lent(120);
-    put_header(sheet, 3, 4, bound);
+    put_header(sheet, 1, 3, 4, bound);
     for (unsigned j = 1; j <= 4; j++) {
         put(sheet + 24 * j, 8, lower[j - 1]);
         put(sheet + 24 * j + 8, 8, 7);
@@ -78,6 +79,41 @@ static const uint8_t *four_runs(unsigned bound)
     }
     return sheet;
 }
+
+/* In edition 2 the same in chamber 1, and in chamber 3 two units of which just one must be on. Chambers 2 and 4 are empty; greatest numbers of theirs
+   play no part. */
+static uint8_t *two_chambers(unsigned bound)
+{
+    static const uint64_t lower[4] = { 1, 2, 4, 1 };
+    uint8_t *sheet = lent(152);
+    put_header(sheet, 2, 5, 4, bound);
+    put(sheet + 12, 4, 0x00020003);
+    for (unsigned j = 1; j <= 4; j++) {
+        put(sheet + 32 * j - 8, 8, lower[j - 1]);
+        put(sheet + 32 * j, 8, 31);
+        put(sheet + 32 * j + 8, 4, 0x00010000);
+        put(sheet + 32 * j + 12, 4, 0xff010702);
+        put(sheet + 32 * j + 16, 2, j % 4 ? j + 1 : 0);
+        put(sheet + 32 * j + 18, 2, 0);
+        put(sheet + 32 * j + 20, 4, j);
+    }
+    return sheet;
+}
+
+/* What these two must give: four_runs at place 0, two_chambers at place 1. The other plan has one warm-up more than the fewest. */
+static const struct {
+    uint8_t *(*sheet)(unsigned bound);
+    size_t length;
+    uint32_t units, fewest, chambers[4];
+    uint64_t upper;
+    uint8_t least[4], greatest[4];
+    uint64_t plan[4], on[4], off[4], other[6];
+} benches[2] = {
+    { four_runs, 120, 3, 3, { 3, 0, 0, 0 }, 7, { 0, 0, 0, 0 }, { 2, 0, 0, 0 }, { 1, 3, 5, 5 }, { 3, 3, 5, 5 }, { 6, 4, 2, 6 },
+        { 1, 2, 4, 1, 0, 0 } },
+    { two_chambers, 152, 5, 4, { 3, 0, 2, 0 }, 31, { 0, 0, 1, 0 }, { 2, 7, 1, 255 }, { 17, 19, 21, 21 }, { 27, 27, 29, 29 }, { 30, 28, 26, 30 },
+        { 17, 18, 20, 17, 0, 0 } },
+};
 
 /* The runs of that sheet as steps, each with a tag. Of the padding each byte is 0xa5. */
 static const warm_step *four_steps(const uint32_t *tags)
@@ -100,9 +136,17 @@ static int is(warm_reply r, uint32_t refusal, uint32_t place, uint32_t total, ui
     return r.refusal == refusal && r.place == place && r.total == total && r.accepted == accepted;
 }
 
-static int are(warm_steps_reply r, uint32_t refusal, uint32_t place, uint32_t units, uint32_t steps, uint32_t bound)
+static int are(warm_steps_reply r, uint32_t refusal, uint32_t place, uint32_t units, uint32_t steps, uint32_t bound, const uint32_t *chambers)
 {
-    return r.refusal == refusal && r.place == place && r.units == units && r.steps == steps && r.bound == bound && r.reserved == 0 && r.start == 0;
+    return r.refusal == refusal && r.place == place && r.units == units && r.steps == steps && r.bound == bound && r.reserved == 0 && r.start == 0
+        && memcmp(r.chambers, chambers, 16) == 0;
+}
+
+/* Of a reply that is refused, or of a sheet that has no unit outside chamber 1. */
+static int are_in_one(warm_steps_reply r, uint32_t refusal, uint32_t place, uint32_t units, uint32_t steps, uint32_t bound)
+{
+    uint32_t chambers[4] = { units, 0, 0, 0 };
+    return are(r, refusal, place, units, steps, bound, chambers);
 }
 
 static int wrote(warm_written r, uint32_t refusal, uint32_t place, uint32_t length)
@@ -116,59 +160,101 @@ static int holds(const uint64_t *out, size_t places, const uint64_t *words)
     return memcmp(out, words, 32) == 0 && untouched(out + 4, 8 * (places - 4));
 }
 
-/* ---- the entries on outputs of so many places */
+/* ---- the entries on outputs of so many places, for each of the two sheets */
 
-static void steps_into(size_t places)
+static void steps_into(size_t which, size_t places)
 {
-    warm_step *list = lent(24 * places);
-    warm_steps_reply r = warm_steps(four_runs(3), 120, list, places);
+    warm_chamber_step *list = lent(32 * places);
+    warm_steps_reply r = warm_steps(benches[which].sheet(3), benches[which].length, list, places);
     if (places < 4) {
-        must(are(r, 8, 4, 0, 0, 0) && untouched(list, 24 * places), "steps into a list that is too short");
+        must(are_in_one(r, 8, 4, 0, 0, 0) && untouched(list, 32 * places), "steps into a list that is too short");
         return;
     }
-    must(are(r, 0, 0, 3, 4, 3), "the reply of steps");
+    must(are(r, 0, 0, benches[which].units, 4, 3, benches[which].chambers), "the reply of steps");
     for (unsigned i = 0; i < 4; i++)
-        must(list[i].lower == (i == 3 ? 1 : (uint64_t)1 << i) && list[i].upper == 7 && list[i].least == 0 && list[i].greatest == 2
-                && list[i].tag == i + 1,
+        must(list[i].lower == (i == 3 ? 1 : (uint64_t)1 << i) && list[i].upper == benches[which].upper
+                && memcmp(list[i].least, benches[which].least, 4) == 0 && memcmp(list[i].greatest, benches[which].greatest, 4) == 0
+                && list[i].tag == i + 1 && list[i].reserved == 0,
             "a step");
-    must(untouched(list + 4, 24 * (places - 4)), "places after the steps");
+    must(untouched(list + 4, 32 * (places - 4)), "places after the steps");
 }
 
-static void plan_into(size_t places)
+static void plan_into(size_t which, size_t places)
 {
-    static const uint64_t plan[4] = { 1, 3, 5, 5 };
+    uint32_t fewest = benches[which].fewest;
+    size_t length = benches[which].length;
     uint64_t *out = lent(8 * places);
-    must(is(warm_plan(four_runs(2), 120, out, places), places < 4 ? 8 : 9, places < 4 ? 4 : 3, 0, 0), "a bound that is too low");
+    must(is(warm_plan(benches[which].sheet(fewest - 1), length, out, places), places < 4 ? 8 : 9, places < 4 ? 4 : fewest, 0, 0),
+        "a bound that is too low");
     must(untouched(out, 8 * places), "a plan that is refused");
-    warm_reply r = warm_plan(four_runs(3), 120, out, places);
+    warm_reply r = warm_plan(benches[which].sheet(fewest), length, out, places);
     if (places < 4)
         must(is(r, 8, 4, 0, 0) && untouched(out, 8 * places), "a plan into an output that is too short");
     else
-        must(is(r, 0, 0, 3, 0) && holds(out, places, plan), "a plan");
+        must(is(r, 0, 0, fewest, 0) && holds(out, places, benches[which].plan), "a plan");
 }
 
-static void chart_into(size_t places, size_t others)
+static void chart_into(size_t which, size_t places, size_t others)
 {
-    static const uint64_t can_be_on[4] = { 3, 3, 5, 5 }, can_be_off[4] = { 6, 4, 2, 6 };
+    uint32_t fewest = benches[which].fewest;
+    size_t length = benches[which].length;
     uint64_t *on = lent(8 * places), *off = lent(8 * others);
     int shorter = places < 4 || others < 4;
-    must(is(warm_chart(four_runs(2), 120, on, places, off, others), shorter ? 8 : 9, shorter ? 4 : 3, 0, 0), "a bound that is too low");
+    must(is(warm_chart(benches[which].sheet(fewest - 1), length, on, places, off, others), shorter ? 8 : 9, shorter ? 4 : fewest, 0, 0),
+        "a bound that is too low");
     must(untouched(on, 8 * places) && untouched(off, 8 * others), "a chart that is refused");
-    warm_reply r = warm_chart(four_runs(3), 120, on, places, off, others);
+    warm_reply r = warm_chart(benches[which].sheet(fewest), length, on, places, off, others);
     if (shorter)
         must(is(r, 8, 4, 0, 0) && untouched(on, 8 * places) && untouched(off, 8 * others), "a chart into an output that is too short");
     else
-        must(is(r, 0, 0, 3, 0) && holds(on, places, can_be_on) && holds(off, others, can_be_off), "a chart");
+        must(is(r, 0, 0, fewest, 0) && holds(on, places, benches[which].on) && holds(off, others, benches[which].off), "a chart");
 }
 
-static void verdict_on(size_t words)
+static void verdict_on(size_t which, size_t words)
 {
-    static const uint64_t made[6] = { 1, 2, 4, 1, 0, 0 };
+    uint32_t more = benches[which].fewest + 1;
+    size_t length = benches[which].length;
+    const uint64_t *made = benches[which].other;
     uint64_t *plan = lent(8 * words);
     memcpy(plan, made, 8 * words);
-    must(is(warm_verdict(four_runs(3), 120, plan, words), words == 4 ? 0 : 10, words == 4 ? 0 : 4, words == 4 ? 4 : 0, 0), "a plan above the bound");
-    must(is(warm_verdict(four_runs(4), 120, plan, words), words == 4 ? 0 : 10, words == 4 ? 0 : 4, words == 4 ? 4 : 0, words == 4), "a plan within it");
+    must(is(warm_verdict(benches[which].sheet(more - 1), length, plan, words), words == 4 ? 0 : 10, words == 4 ? 0 : 4, words == 4 ? more : 0, 0),
+        "a plan above the bound");
+    must(is(warm_verdict(benches[which].sheet(more), length, plan, words), words == 4 ? 0 : 10, words == 4 ? 0 : 4, words == 4 ? more : 0, words == 4),
+        "a plan within it");
     must(memcmp(plan, made, 8 * words) == 0, "the plan that was handed in");
+}
+
+/* ---- sheets that are refused: another number of so many bytes in one of the two */
+
+static void refused_sheets(void)
+{
+    static const struct {
+        size_t which, at;
+        int bytes;
+        uint32_t number, refusal, place;
+    } faults[] = {
+        { 0, 0, 1, 'w', 2, 0 }, { 0, 4, 1, 0, 2, 4 }, { 0, 4, 1, 3, 2, 4 }, { 0, 4, 1, 2, 13, 12 }, { 0, 5, 1, 65, 3, 5 }, { 0, 6, 2, 257, 3, 6 },
+        { 0, 12, 4, 1, 3, 12 }, { 0, 12, 4, 3, 3, 12 }, { 0, 16, 1, 8, 3, 16 }, { 0, 6, 2, 3, 3, 24 }, { 0, 8, 2, 5, 4, 0 }, { 0, 90, 2, 256, 4, 3 },
+        { 0, 114, 2, 2, 5, 4 }, { 0, 80, 1, 15, 6, 3 }, { 0, 64, 1, 3, 7, 2 },
+        { 1, 0, 1, 'w', 2, 0 }, { 1, 4, 1, 0, 2, 4 }, { 1, 4, 1, 3, 2, 4 }, { 1, 4, 1, 1, 3, 12 }, { 1, 5, 1, 65, 3, 5 }, { 1, 6, 2, 257, 3, 6 },
+        { 1, 5, 1, 4, 13, 12 }, { 1, 12, 4, 0, 13, 12 }, { 1, 12, 4, 0x00020004, 13, 12 }, { 1, 12, 4, 0x80800203, 13, 12 },
+        { 1, 12, 4, 0x08ffffff, 13, 12 }, { 1, 16, 1, 32, 3, 16 }, { 1, 6, 2, 3, 3, 24 }, { 1, 8, 2, 5, 4, 0 }, { 1, 112, 2, 256, 4, 3 },
+        { 1, 144, 2, 2, 5, 4 }, { 1, 114, 2, 1, 14, 3 }, { 1, 114, 2, 256, 14, 3 }, { 1, 96, 1, 63, 6, 3 }, { 1, 72, 1, 3, 7, 2 },
+        { 1, 73, 1, 1, 7, 2 }, { 1, 74, 1, 2, 7, 2 },
+    };
+    warm_chamber_step *list = lent(32 * 4);
+    uint64_t *on = lent(8 * 4), *off = lent(8 * 4);
+    for (size_t i = 0; i < sizeof faults / sizeof *faults; i++) {
+        size_t length = benches[faults[i].which].length;
+        uint8_t *sheet = benches[faults[i].which].sheet(9);
+        uint32_t refusal = faults[i].refusal, place = faults[i].place;
+        put(sheet + faults[i].at, faults[i].bytes, faults[i].number);
+        must(are_in_one(warm_steps(sheet, length, list, 4), refusal, place, 0, 0, 0), "steps of a sheet that is refused");
+        must(is(warm_plan(sheet, length, on, 4), refusal, place, 0, 0), "the plan of a sheet that is refused");
+        must(is(warm_chart(sheet, length, on, 4, off, 4), refusal, place, 0, 0), "the chart of a sheet that is refused");
+        must(is(warm_verdict(sheet, length, benches[0].plan, 4), refusal, place, 0, 0), "a verdict on a sheet that is refused");
+    }
+    must(untouched(list, 32 * 4) && untouched(on, 8 * 4) && untouched(off, 8 * 4), "outputs for sheets that are refused");
 }
 
 /* ---- sheets that are written */
@@ -205,7 +291,7 @@ static void write_within(void)
                 "what is outside the limits of a sheet");
     for (unsigned units = 1; units <= 64; units++) {
         uint8_t header[24];
-        put_header(header, units, 0, 999 * units);
+        put_header(header, 1, units, 0, 999 * units);
         put(header + 16, 8, UINT64_MAX >> (64 - units));
         must(wrote(warm_write((uint8_t)units, (uint16_t)(999 * units), UINT64_MAX >> (64 - units), NULL, 0, out, 24), 0, 0, 24), "a header");
         must(memcmp(out, header, 24) == 0 && untouched(out + 24, 24 * 257), "the bytes of a header");
@@ -221,7 +307,9 @@ static void write_and_read(void)
     must(wrote(warm_write(3, 3, 0, four_steps(no_tags), 4, NULL, 0), 12, 120, 0), "the length of a sheet");
     must(wrote(warm_write(3, 3, 0, four_steps(no_tags), 4, out, 120), 0, 0, 120) && memcmp(out, stored, 120) == 0, "the sheet on standard input");
 
-    warm_step *steps = lent(24 * WARM_STEPS), *same = lent(24 * WARM_STEPS), *list = lent(24 * WARM_STEPS);
+    enum { LONGEST = 24 * (WARM_STEPS + 1) };
+    warm_step *steps = lent(24 * WARM_STEPS), *same = lent(24 * WARM_STEPS);
+    warm_chamber_step *list = lent(32 * WARM_STEPS);
     for (unsigned i = 0; i < WARM_STEPS; i++) {
         steps[i].lower = (uint64_t)1 << i % 64;
         steps[i].upper = UINT64_MAX - i * ((uint64_t)1 << i % 56);
@@ -231,35 +319,43 @@ static void write_and_read(void)
         steps[i].tag = UINT32_MAX >> i % 32;
     }
     memcpy(same, steps, 24 * WARM_STEPS);
-    must(wrote(warm_write(64, 65535, UINT64_MAX, steps, WARM_STEPS, out, WARM_BYTES), 0, 0, WARM_BYTES), "the longest sheet");
+    must(wrote(warm_write(64, 65535, UINT64_MAX, steps, WARM_STEPS, out, WARM_BYTES), 0, 0, LONGEST), "the longest sheet");
+    must(untouched(out + LONGEST, WARM_BYTES - LONGEST), "bytes after the longest sheet");
     must(memcmp(same, steps, 24 * WARM_STEPS) == 0, "the steps of the longest sheet");
-    warm_steps_reply r = warm_steps(out, WARM_BYTES, list, WARM_STEPS);
+    warm_steps_reply r = warm_steps(out, LONGEST, list, WARM_STEPS);
     must(r.refusal == 0 && r.units == 64 && r.steps == WARM_STEPS && r.bound == 65535 && r.start == UINT64_MAX, "the longest sheet, read back");
-    for (unsigned i = 0; i < WARM_STEPS; i++)
-        must(list[i].lower == steps[i].lower && list[i].upper == steps[i].upper && list[i].least == steps[i].least
-                && list[i].greatest == steps[i].greatest && list[i].tag == steps[i].tag,
+    must(r.chambers[0] == 64 && r.chambers[1] == 0 && r.chambers[2] == 0 && r.chambers[3] == 0, "the chambers, read back");
+    for (unsigned i = 0; i < WARM_STEPS; i++) {
+        const uint8_t least[4] = { steps[i].least, 0, 0, 0 }, greatest[4] = { steps[i].greatest, 0, 0, 0 };
+        must(list[i].lower == steps[i].lower && list[i].upper == steps[i].upper && memcmp(list[i].least, least, 4) == 0
+                && memcmp(list[i].greatest, greatest, 4) == 0 && list[i].tag == steps[i].tag && list[i].reserved == 0,
             "a step that was read back");
+    }
 
     /* a step that no set meets, or with a unit that the sheet has not, is written all the same, and the readers refuse it */
     steps[99].greatest = 0;
-    must(wrote(warm_write(64, 0, 0, steps, WARM_STEPS, out, WARM_BYTES), 0, 0, WARM_BYTES), "a step that no set meets");
-    must(is(warm_plan(out, WARM_BYTES, NULL, 0), 7, 100, 0, 0), "the refusal of a step that no set meets");
-    must(wrote(warm_write(63, 0, 0, steps, WARM_STEPS, out, WARM_BYTES), 0, 0, WARM_BYTES), "a unit that the sheet has not");
-    must(is(warm_plan(out, WARM_BYTES, NULL, 0), 6, 1, 0, 0), "the refusal of a unit that the sheet has not");
+    must(wrote(warm_write(64, 0, 0, steps, WARM_STEPS, out, LONGEST), 0, 0, LONGEST), "a step that no set meets");
+    must(is(warm_plan(out, LONGEST, NULL, 0), 7, 100, 0, 0), "the refusal of a step that no set meets");
+    must(wrote(warm_write(63, 0, 0, steps, WARM_STEPS, out, LONGEST), 0, 0, LONGEST), "a unit that the sheet has not");
+    must(is(warm_plan(out, LONGEST, NULL, 0), 6, 1, 0, 0), "the refusal of a unit that the sheet has not");
 }
 
 /* ---- nothing lent, and bytes that are no sheet */
 
 static void nothing_lent(void)
 {
-    uint8_t *sheet = lent(24);
-    put_header(sheet, 1, 0, 0);
-    must(are(warm_steps(sheet, 24, NULL, 0), 0, 0, 1, 0, 0), "steps of a sheet without a step");
-    must(is(warm_plan(sheet, 24, NULL, 0), 0, 0, 0, 0), "the plan of a sheet without a step");
-    must(is(warm_chart(sheet, 24, NULL, 0, NULL, 0), 0, 0, 0, 0), "the chart of a sheet without a step");
-    must(is(warm_verdict(sheet, 24, NULL, 0), 0, 0, 0, 1), "no words for no step");
-    must(are(warm_steps(four_runs(3), 120, NULL, 0), 8, 4, 0, 0, 0), "the number of steps");
-    must(are(warm_steps(NULL, 0, NULL, 0), 1, 0, 0, 0, 0), "steps of no bytes");
+    for (unsigned edition = 1; edition <= 2; edition++) {
+        uint8_t *sheet = lent(24);
+        put_header(sheet, edition, 1, 0, 0);
+        put(sheet + 12, 1, edition == 2);
+        must(are_in_one(warm_steps(sheet, 24, NULL, 0), 0, 0, 1, 0, 0), "steps of a sheet without a step");
+        must(is(warm_plan(sheet, 24, NULL, 0), 0, 0, 0, 0), "the plan of a sheet without a step");
+        must(is(warm_chart(sheet, 24, NULL, 0, NULL, 0), 0, 0, 0, 0), "the chart of a sheet without a step");
+        must(is(warm_verdict(sheet, 24, NULL, 0), 0, 0, 0, 1), "no words for no step");
+    }
+    must(are_in_one(warm_steps(four_runs(3), 120, NULL, 0), 8, 4, 0, 0, 0), "the number of steps");
+    must(are_in_one(warm_steps(two_chambers(3), 152, NULL, 0), 8, 4, 0, 0, 0), "the number of steps of edition 2");
+    must(are_in_one(warm_steps(NULL, 0, NULL, 0), 1, 0, 0, 0, 0), "steps of no bytes");
     must(is(warm_plan(NULL, 0, NULL, 0), 1, 0, 0, 0), "the plan of no bytes");
     must(is(warm_chart(NULL, 0, NULL, 0, NULL, 0), 1, 0, 0, 0), "the chart of no bytes");
     must(is(warm_verdict(NULL, 0, NULL, 0), 1, 0, 0, 0), "a verdict on no bytes");
@@ -268,18 +364,21 @@ static void nothing_lent(void)
     must(wrote(warm_write(1, 0, 0, NULL, 0, lent(24), 24), 0, 0, 24), "a sheet without a step");
 }
 
-/* Bytes of every length up to one above the longest sheet, all of one value, behind a header that asks for 256 records. */
-static void no_sheets(void)
+/* Bytes of every length up to one above the longest sheet, all of one value, behind a header of an edition that asks for 256 records. */
+static void no_sheets(unsigned edition)
 {
+    size_t whole = edition == 1 ? 6168 : 8216;
     uint64_t *out = lent(8 * WARM_STEPS);
     for (size_t length = 0; length <= WARM_BYTES + 1; length++) {
         uint8_t *bytes = lent(WARM_BYTES + 1), *sheet = bytes + WARM_BYTES + 1 - length;
-        uint32_t number = length < 24 || length > WARM_BYTES ? 1 : length < WARM_BYTES ? 3 : 4;
+        uint32_t number = length < 24 || length > WARM_BYTES ? 1 : length != whole ? 3 : 4;
         uint32_t place = number == 3 ? 24 : number == 4 ? 1 : 0;
-        if (length >= 24)
-            put_header(sheet, 64, 256, 0);
+        if (length >= 24) {
+            put_header(sheet, edition, 64, 256, 0);
+            put(sheet + 12, 4, edition == 1 ? 0 : 0x10101010);
+        }
         must(is(warm_plan(sheet, length, out, WARM_STEPS), number, place, 0, 0) && untouched(out, 8 * WARM_STEPS), "bytes that are no sheet");
-        munmap((void *)((uintptr_t)bytes & ~(uintptr_t)4095), 3 * 4096);
+        munmap((void *)((uintptr_t)bytes & ~(uintptr_t)4095), 4 * 4096);
     }
 }
 
@@ -288,12 +387,12 @@ static void no_sheets(void)
 static void words(void)
 {
     static const char unknown[] = "a refusal that this version of warm.h does not know";
-    must(strcmp(warm_cause(WARM_REFUSAL_HEADER, 12), "bytes 12 to 15 are not zero") == 0, "a cause by its place");
+    must(strcmp(warm_cause(WARM_REFUSAL_HEADER, 12), "bytes 12 to 15 are not zero in edition 1") == 0, "a cause by its place");
     must(strcmp(warm_cause(WARM_REFUSAL_LOOP, 12), "the next record is already on the chain") == 0, "a cause at any place");
     must(warm_place_of(WARM_REFUSAL_HEADER) == WARM_PLACE_BYTE, "what a place is");
     for (uint32_t number = 0; number <= 1000; number++) {
-        int known = number >= WARM_REFUSAL_LENGTH && number <= WARM_REFUSAL_NO_ROOM;
-        int by_byte = number == WARM_REFUSAL_FORM || number == WARM_REFUSAL_HEADER;
+        int known = number >= WARM_REFUSAL_LENGTH && number <= WARM_REFUSAL_RESERVED_BYTES;
+        int by_byte = number == WARM_REFUSAL_FORM || number == WARM_REFUSAL_HEADER || number == WARM_REFUSAL_CHAMBER_SIZES;
         must((strcmp(warm_cause(number, 99), unknown) == 0) == (!known || by_byte), "which causes are known");
         must((warm_place_of(number) == WARM_PLACE_UNKNOWN) == !known, "which places are known");
     }
@@ -301,19 +400,22 @@ static void words(void)
 
 int main(void)
 {
-    for (size_t places = 0; places <= 6; places++) {
-        steps_into(places);
-        plan_into(places);
-        verdict_on(places);
-        for (size_t others = 0; others <= 6; others++)
-            chart_into(places, others);
-    }
+    for (size_t which = 0; which < 2; which++)
+        for (size_t places = 0; places <= 6; places++) {
+            steps_into(which, places);
+            plan_into(which, places);
+            verdict_on(which, places);
+            for (size_t others = 0; others <= 6; others++)
+                chart_into(which, places, others);
+        }
+    refused_sheets();
     for (size_t places = 0; places <= 145; places++)
         write_into(places);
     write_within();
     write_and_read();
     nothing_lent();
-    no_sheets();
+    no_sheets(1);
+    no_sheets(2);
     words();
     printf("from C: %u comparisons, no difference\n", compared);
     return 0;

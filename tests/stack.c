@@ -9,6 +9,7 @@
 #include "warm.h"
 
 #include <stdio.h>
+#include <sys/mman.h>
 #include <sys/wait.h>
 #include <unistd.h>
 
@@ -16,8 +17,10 @@
 enum { SIZE = 1 << 16, DEPTH = SIZE - 16, PAINT = 0xa5 };
 
 static uint8_t sheet[WARM_BYTES + 1], written[WARM_BYTES];
+static warm_chamber_step list[WARM_STEPS];
 static warm_step steps[WARM_STEPS];
-static warm_steps_reply summary;
+/* shared with the processes of the calls: the verdict needs the number of steps */
+static warm_steps_reply *summary;
 static uint64_t sets[WARM_STEPS], on[WARM_STEPS], off[WARM_STEPS];
 static volatile uint8_t region[SIZE] __attribute__((aligned(16)));
 static uint64_t first_word;
@@ -59,7 +62,7 @@ static int measure(const char *name, any_function *entry, size_t limit, const ui
     if (child == 0) {
         size_t depth = depth_of(entry, words);
         /* a reply of up to 16 bytes comes in registers, the refusal in the lower half of the first; a larger one at a place that was handed in */
-        uint32_t refusal = words[0] == (uintptr_t)&summary ? summary.refusal : (uint32_t)first_word;
+        uint32_t refusal = words[0] == (uintptr_t)summary ? summary->refusal : (uint32_t)first_word;
         printf("%s: %zu bytes of stack, limit %zu\n", name, depth, limit);
         fflush(stdout);
         _exit(refusal != 0 ? 2 : depth > limit);
@@ -73,21 +76,24 @@ int main(void)
 {
     ssize_t got = read(STDIN_FILENO, sheet, sizeof sheet);
     uintptr_t length = got < 0 ? 0 : (uintptr_t)got;
-    const uintptr_t for_steps[] = { (uintptr_t)&summary, (uintptr_t)sheet, length, (uintptr_t)steps, WARM_STEPS, 0, 0 };
+    summary = mmap(NULL, sizeof *summary, PROT_READ | PROT_WRITE, MAP_SHARED | MAP_ANONYMOUS, -1, 0);
+    if (summary == MAP_FAILED)
+        return 2;
+    const uintptr_t for_steps[] = { (uintptr_t)summary, (uintptr_t)sheet, length, (uintptr_t)list, WARM_STEPS, 0, 0 };
+    int worst = measure("warm_steps", (any_function *)warm_steps, WARM_STACK_STEPS, for_steps);
     const uintptr_t for_plan[] = { (uintptr_t)sheet, length, (uintptr_t)sets, WARM_STEPS, 0, 0, 0 };
+    const uintptr_t for_verdict[] = { (uintptr_t)sheet, length, (uintptr_t)sets, summary->steps, 0, 0, 0 };
     const uintptr_t for_chart[] = { (uintptr_t)sheet, length, (uintptr_t)on, WARM_STEPS, (uintptr_t)off, WARM_STEPS, 0 };
     /* a caller may leave anything in the upper half of a register that holds a smaller number */
     const uintptr_t anything = (uintptr_t)0xa5a5a5a5 << 32;
     const uintptr_t for_write[]
         = { WARM_UNITS | anything, anything, UINT64_MAX, (uintptr_t)steps, WARM_STEPS, (uintptr_t)written, WARM_BYTES };
     const int found[] = {
-        measure("warm_steps", (any_function *)warm_steps, WARM_STACK_STEPS, for_steps),
         measure("warm_plan", (any_function *)warm_plan, WARM_STACK_PLAN, for_plan),
         measure("warm_chart", (any_function *)warm_chart, WARM_STACK_CHART, for_chart),
-        measure("warm_verdict", (any_function *)warm_verdict, WARM_STACK_VERDICT, for_plan),
+        measure("warm_verdict", (any_function *)warm_verdict, WARM_STACK_VERDICT, for_verdict),
         measure("warm_write", (any_function *)warm_write, WARM_STACK_WRITE, for_write),
     };
-    int worst = 0;
     for (size_t i = 0; i < sizeof found / sizeof *found; i++)
         worst = found[i] > worst ? found[i] : worst;
     return worst;

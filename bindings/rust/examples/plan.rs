@@ -31,7 +31,7 @@ fn main() -> ExitCode {
 }
 
 fn print_plan(sheet: &[u8]) -> Result<(), warm::Error> {
-    let mut list = [warm::Step::default(); warm::STEPS];
+    let mut list = [warm::ChamberStep::default(); warm::STEPS];
     let [mut sets, mut on, mut off] = [[0; warm::STEPS]; 3];
     let campaign = warm::steps(sheet, &mut list)?;
     let plan = warm::plan(sheet, &mut sets)?;

@@ -1,6 +1,6 @@
 //! The C interface, as include/warm.h declares it.
 
-use crate::Step;
+use crate::{ChamberStep, Step, CHAMBERS};
 use core::mem::{align_of, offset_of, size_of};
 
 #[repr(C)]
@@ -12,6 +12,7 @@ pub struct StepsReply {
     pub bound: u32,
     pub reserved: u32,
     pub start: u64,
+    pub chambers: [u32; CHAMBERS],
 }
 
 #[repr(C)]
@@ -31,7 +32,7 @@ pub struct Written {
 }
 
 extern "C" {
-    pub fn warm_steps(sheet: *const u8, sheet_len: usize, steps: *mut Step, steps_len: usize) -> StepsReply;
+    pub fn warm_steps_2(sheet: *const u8, sheet_len: usize, steps: *mut ChamberStep, steps_len: usize) -> StepsReply;
     pub fn warm_plan(sheet: *const u8, sheet_len: usize, plan: *mut u64, plan_len: usize) -> Reply;
     pub fn warm_chart(
         sheet: *const u8,
@@ -55,15 +56,20 @@ extern "C" {
 
 // The layouts that include/warm.h asserts for C.
 const _: () = {
+    assert!(size_of::<ChamberStep>() == 32 && align_of::<ChamberStep>() == 8);
+    assert!(offset_of!(ChamberStep, lower) == 0 && offset_of!(ChamberStep, upper) == 8);
+    assert!(offset_of!(ChamberStep, least) == 16 && offset_of!(ChamberStep, greatest) == 20);
+    assert!(offset_of!(ChamberStep, tag) == 24 && offset_of!(ChamberStep, reserved) == 28);
+
     assert!(size_of::<Step>() == 24 && align_of::<Step>() == 8);
     assert!(offset_of!(Step, lower) == 0 && offset_of!(Step, upper) == 8);
     assert!(offset_of!(Step, least) == 16 && offset_of!(Step, greatest) == 17 && offset_of!(Step, tag) == 20);
 
-    assert!(size_of::<StepsReply>() == 32 && align_of::<StepsReply>() == 8);
+    assert!(size_of::<StepsReply>() == 48 && align_of::<StepsReply>() == 8);
     assert!(offset_of!(StepsReply, refusal) == 0 && offset_of!(StepsReply, place) == 4);
     assert!(offset_of!(StepsReply, units) == 8 && offset_of!(StepsReply, steps) == 12);
     assert!(offset_of!(StepsReply, bound) == 16 && offset_of!(StepsReply, reserved) == 20);
-    assert!(offset_of!(StepsReply, start) == 24);
+    assert!(offset_of!(StepsReply, start) == 24 && offset_of!(StepsReply, chambers) == 32);
 
     assert!(size_of::<Reply>() == 16 && align_of::<Reply>() == 4);
     assert!(offset_of!(Reply, refusal) == 0 && offset_of!(Reply, place) == 4);

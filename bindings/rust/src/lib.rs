@@ -5,19 +5,20 @@
 //!
 //! | Function | What it gives |
 //! |---|---|
-//! | [`steps`] | the numbers of the header, and one [`Step`] for each step |
+//! | [`steps`] | the numbers of the header, and one [`ChamberStep`] for each step |
 //! | [`step_count`] | the number of steps |
 //! | [`plan`] | a plan with the fewest warm-ups, one set for each step, and its total |
 //! | [`chart`] | two sets for each step: the units that can be on, and those that can be off |
 //! | [`verdict`] | whether a plan made elsewhere meets the sheet, and its total |
-//! | [`write()`] | the sheet of a number of units, a bound, a start set and steps |
+//! | [`write()`] | the sheet, of edition 1, of a number of units, a bound, a start set and one [`Step`] for each step |
 //!
 //! # Units, sets, plans
 //!
-//! A *unit* has a number from 0 to 63. A *set* of units is a `u64` in which unit `u` has weight 2^u. A *plan* has one set for each step. It
-//! is *feasible* if in every step its set includes the step's lower set, lies within its upper set, and has a size from its least to its
-//! greatest number. Its *warm-ups* in a step are the units that are on there and were off in the step before; before the first step, the
-//! start set is on. Its *total* is the sum over all steps. A plan *meets the sheet* if it is feasible and its total is at most the bound.
+//! A *unit* has a number from 0 to 63, and lies in one of four *chambers*. A *set* of units is a `u64` in which unit `u` has weight 2^u. A
+//! *plan* has one set for each step. It is *feasible* if in every step its set includes the step's lower set, lies within its upper set, and
+//! has in each chamber a number of units from that chamber's least to its greatest number. Its *warm-ups* in a step are the units that are on
+//! there and were off in the step before; before the first step, the start set is on. Its *total* is the sum over all steps. A plan *meets the
+//! sheet* if it is feasible and its total is at most the bound.
 //!
 //! Some papers leave out the loading of the first step. With all units in the start set, the total of [`plan`] and [`chart`], or the count
 //! that comes with [`Refusal::Bound`], is what those papers count: the least that any feasible plan has from its second step on, or 0 if
@@ -31,36 +32,40 @@
 //! # Ok::<(), warm::Error>(())
 //! ```
 //!
-//! In a step that has a feasible set, the least size of one is the greater of the least number and the size of the lower set, the greatest
-//! size is the lesser of the greatest number and the size of the upper set, and every number between is the size of one too. The
-//! repository's program `list_sizes` prints the two, how few and how many units may be on, for each step of a sheet.
+//! In a step that has a feasible set, the least size of one is the sum, over the chambers, of the greater of the least number and the number
+//! of the chamber's units in the lower set, the greatest size is that of the lesser of the greatest number and the number of its units in the
+//! upper set, and every number between is the size of one too. The repository's program `list_sizes` prints the two, how few and how many
+//! units may be on, for each step of a sheet.
 //!
 //! # The sheet
 //!
-//! A campaign sheet is a block of bytes: a header of 24 bytes, then r records of 24 bytes each. Numbers are little-endian.
+//! A campaign sheet is a block of bytes: a header of 24 bytes, then r records, of 24 bytes each in edition 1 and of 32 in edition 2. Numbers
+//! are little-endian.
 //!
 //! | Bytes of the header | What |
 //! |---|---|
 //! | 0 to 3 | the ASCII letters `WARM` |
-//! | 4 | the edition, 1 |
+//! | 4 | the edition, 1 or 2 |
 //! | 5 | the number of units d, 1 to 64 |
 //! | 6 to 7 | the number of records r, 0 to 256 |
 //! | 8 to 9 | the number of the first record, 0 if there is no step |
 //! | 10 to 11 | the bound on warm-ups |
-//! | 12 to 15 | zero |
+//! | 12 to 15 | in edition 1 zero; in edition 2 the numbers of units of chambers 1 to 4, which add up to d |
 //! | 16 to 23 | the start set, units below d only |
 //!
-//! | Bytes of a record | What |
-//! |---|---|
-//! | 0 to 7 | the lower set: the units that must be on |
-//! | 8 to 15 | the upper set: the units that may be on, all below d |
-//! | 16 | the least number of units on |
-//! | 17 | the greatest number of units on |
-//! | 18 to 19 | the number of the next record, 0 at the end |
-//! | 20 to 23 | a job tag, any value |
+//! | Bytes of a record, edition 1 | Edition 2 | What |
+//! |---|---|---|
+//! | 0 to 7 | 0 to 7 | the lower set: the units that must be on |
+//! | 8 to 15 | 8 to 15 | the upper set: the units that may be on, all below d |
+//! | 16 | 16 to 19 | the least number of units on, in edition 2 for each chamber |
+//! | 17 | 20 to 23 | the greatest number of units on, likewise |
+//! | 18 to 19 | 24 to 25 | the number of the next record, 0 at the end |
+//! | none | 26 to 27 | zero |
+//! | 20 to 23 | 28 to 31 | a job tag, any value |
 //!
-//! Records are numbered from 1. The steps are the records from the first one along the next ones; a record that is never reached may hold
-//! anything. The repository's `docs/FORMAT.md` has the details, the choice among several best plans included.
+//! Units are dealt out to the chambers in order, and a chamber may be empty; in edition 1 all are in chamber 1. Records are numbered from 1. The
+//! steps are the records from the first one along the next ones; a record that is never reached may hold anything. The repository's
+//! `docs/FORMAT.md` has the details, the choice among several best plans included.
 //!
 //! # Replies, refusals and buffers
 //!
@@ -74,7 +79,7 @@
 //! in a `Vec`.
 //!
 //! No call but those four allocates, and none blocks, prints or keeps state, so threads may call at will. A call takes less than a
-//! millisecond on the largest sheets. The library needs at most 32,768 bytes of stack for a chart, and at most 11,264 for all else; what these
+//! millisecond on the largest sheets. The library needs at most 32,768 bytes of stack for a chart, and at most 13,824 for all else; what these
 //! limits leave out, the C header says under Stack.
 //!
 //! # Linking
@@ -115,16 +120,19 @@ pub use owned::{chart_vec, plan_vec, steps_vec, write_vec};
 pub use refusal::{Error, Place, Refusal, UnknownRefusal};
 
 /// The version of the library's C interface that this crate is written for.
-pub const VERSION: u32 = 1;
+pub const VERSION: u32 = 2;
 
 /// The most units that a sheet can have.
 pub const UNITS: usize = 64;
+
+/// The most chambers that a sheet can have.
+pub const CHAMBERS: usize = 4;
 
 /// The most steps that a sheet can have: outputs of this many places are always enough.
 pub const STEPS: usize = 256;
 
 /// The most bytes that a sheet can have: an output of this many is always enough.
-pub const BYTES: usize = 24 * (STEPS + 1);
+pub const BYTES: usize = 24 + 32 * STEPS;
 
 /// A sheet to try: three units, of which at most two may be on, and four steps that need unit 0, unit 1, unit 2 and unit 0 again. The bound
 /// is three warm-ups, and nothing is on at the start.
@@ -135,7 +143,42 @@ pub const FOUR_RUNS: [u8; 120] = *b"\
     \x04\0\0\0\0\0\0\0\x07\0\0\0\0\0\0\0\0\x02\x04\0\0\0\0\0\
     \x01\0\0\0\0\0\0\0\x07\0\0\0\0\0\0\0\0\x02\0\0\0\0\0\0";
 
-/// One step of a campaign. Unit `u` has weight 2^u in a set. The default is no step of use: it fills lists that are lent.
+/// One step of a sheet that is read, from [`steps`]. Unit `u` has weight 2^u in a set, and chamber `c` has place `c - 1` in an array. The
+/// default is no step of use: it fills lists that are lent.
+#[repr(C)]
+#[derive(Clone, Copy, Debug, Default, PartialEq, Eq, Hash)]
+#[non_exhaustive]
+pub struct ChamberStep {
+    /// The units that must be on.
+    pub lower: u64,
+    /// The units that may be on.
+    pub upper: u64,
+    /// The least number of units on, for each chamber.
+    pub least: [u8; CHAMBERS],
+    /// The greatest number of units on, for each chamber.
+    pub greatest: [u8; CHAMBERS],
+    /// The job tag, any value.
+    pub tag: u32,
+    /// 0 in a step that was read.
+    pub reserved: u32,
+}
+
+impl ChamberStep {
+    /// A step from its lower and upper set, the least and greatest numbers of its chambers and its tag.
+    #[must_use]
+    pub const fn new(lower: u64, upper: u64, least: [u8; CHAMBERS], greatest: [u8; CHAMBERS], tag: u32) -> ChamberStep {
+        ChamberStep { lower, upper, least, greatest, tag, reserved: 0 }
+    }
+}
+
+/// What is read of a step that was written: its numbers are those of chamber 1, and the others are 0.
+impl From<Step> for ChamberStep {
+    fn from(step: Step) -> ChamberStep {
+        ChamberStep::new(step.lower, step.upper, [step.least, 0, 0, 0], [step.greatest, 0, 0, 0], step.tag)
+    }
+}
+
+/// One step of a sheet that is written, which has one chamber, for [`write()`]. Unit `u` has weight 2^u in a set.
 #[repr(C)]
 #[derive(Clone, Copy, Debug, Default, PartialEq, Eq, Hash)]
 #[non_exhaustive]
@@ -160,7 +203,7 @@ impl Step {
     }
 }
 
-/// What a sheet says, from [`steps`]: the steps as `&[Step]`, or as `Vec<Step>` from `steps_vec`.
+/// What a sheet says, from [`steps`]: the steps as `&[ChamberStep]`, or as `Vec<ChamberStep>` from `steps_vec`.
 #[derive(Clone, Copy, Debug, PartialEq, Eq, Hash)]
 #[non_exhaustive]
 pub struct Campaign<Steps> {
@@ -170,6 +213,8 @@ pub struct Campaign<Steps> {
     pub bound: u32,
     /// The units that are on before the first step.
     pub start: u64,
+    /// The number of units of each chamber: of a sheet of edition 1, that of all units, and three times 0.
+    pub chambers: [u32; CHAMBERS],
     /// The steps in order.
     pub steps: Steps,
 }
@@ -209,24 +254,24 @@ pub struct Verdict {
 /// The steps of a sheet, in order, into the first places of `list`.
 ///
 /// ```
-/// let mut list = [warm::Step::default(); warm::STEPS];
+/// let mut list = [warm::ChamberStep::default(); warm::STEPS];
 /// let campaign = warm::steps(&warm::FOUR_RUNS, &mut list)?;
-/// assert_eq!((campaign.units, campaign.bound, campaign.start), (3, 3, 0));
+/// assert_eq!((campaign.units, campaign.bound, campaign.start, campaign.chambers), (3, 3, 0, [3, 0, 0, 0]));
 /// assert_eq!(campaign.steps.len(), 4);
-/// assert_eq!(campaign.steps[2], warm::Step::new(0b100, 0b111, 0, 2, 0));
+/// assert_eq!(campaign.steps[2], warm::ChamberStep::new(0b100, 0b111, [0, 0, 0, 0], [2, 0, 0, 0], 0));
 /// # Ok::<(), warm::Error>(())
 /// ```
 ///
 /// # Errors
 ///
-/// Refusals 1 to 8; the list is then as it was.
-pub fn steps<'a>(sheet: &[u8], list: &'a mut [Step]) -> Result<Campaign<&'a [Step]>, Error> {
+/// Refusals 1 to 8, 13 and 14; the list is then as it was.
+pub fn steps<'a>(sheet: &[u8], list: &'a mut [ChamberStep]) -> Result<Campaign<&'a [ChamberStep]>, Error> {
     // SAFETY: each pointer and length is that of a live slice, the one that is written to is lent for writing, and the library keeps
-    // neither. Whatever it writes to a place is a valid `Step`.
-    let reply = unsafe { ffi::warm_steps(sheet.as_ptr(), sheet.len(), list.as_mut_ptr(), list.len()) };
+    // neither. Whatever it writes to a place is a valid `ChamberStep`.
+    let reply = unsafe { ffi::warm_steps_2(sheet.as_ptr(), sheet.len(), list.as_mut_ptr(), list.len()) };
     full(reply.refusal, reply.place)?;
     let steps = first(list, reply.steps as usize);
-    Ok(Campaign { units: reply.units, bound: reply.bound, start: reply.start, steps })
+    Ok(Campaign { units: reply.units, bound: reply.bound, start: reply.start, chambers: reply.chambers, steps })
 }
 
 /// The number of steps of a sheet: the places that an output takes.
@@ -237,7 +282,7 @@ pub fn steps<'a>(sheet: &[u8], list: &'a mut [Step]) -> Result<Campaign<&'a [Ste
 ///
 /// # Errors
 ///
-/// Refusals 1 to 7.
+/// Refusals 1 to 7, 13 and 14.
 pub fn step_count(sheet: &[u8]) -> Result<usize, Error> {
     match steps(sheet, &mut []) {
         Ok(_) => Ok(0),
@@ -248,8 +293,8 @@ pub fn step_count(sheet: &[u8]) -> Result<usize, Error> {
 
 /// A plan with the fewest warm-ups, into the first places of `output`.
 ///
-/// The plan meets the sheet. Where several have as few warm-ups, it is always the same one of them, the one that FindSupport builds: where
-/// nothing else tells two units apart, it prefers the higher number.
+/// The plan meets the sheet. Where several have as few warm-ups, it is always the same one of them, the one that FindSupport builds in each
+/// chamber: where nothing else tells two units of a chamber apart, it prefers the higher number.
 ///
 /// ```
 /// let mut sets = [0; warm::STEPS];
@@ -267,7 +312,7 @@ pub fn step_count(sheet: &[u8]) -> Result<usize, Error> {
 ///
 /// # Errors
 ///
-/// Refusals 1 to 9; the output is then as it was.
+/// Refusals 1 to 9, 13 and 14; the output is then as it was.
 pub fn plan<'a>(sheet: &[u8], output: &'a mut [u64]) -> Result<Plan<&'a [u64]>, Error> {
     // SAFETY: each pointer and length is that of a live slice, the one that is written to is lent for writing, and the library keeps
     // neither.
@@ -293,7 +338,7 @@ pub fn plan<'a>(sheet: &[u8], output: &'a mut [u64]) -> Result<Plan<&'a [u64]>, 
 ///
 /// # Errors
 ///
-/// Refusals 1 to 9; both outputs are then as they were.
+/// Refusals 1 to 9, 13 and 14; both outputs are then as they were.
 pub fn chart<'a>(sheet: &[u8], on: &'a mut [u64], off: &'a mut [u64]) -> Result<Chart<&'a [u64]>, Error> {
     // SAFETY: each pointer and length is that of a live slice, the two that are written to are lent for writing and cannot overlap, and the
     // library keeps none.
@@ -317,7 +362,7 @@ pub fn chart<'a>(sheet: &[u8], on: &'a mut [u64], off: &'a mut [u64]) -> Result<
 ///
 /// # Errors
 ///
-/// Refusals 1 to 7 and 10.
+/// Refusals 1 to 7, 10, 13 and 14.
 pub fn verdict(sheet: &[u8], plan: &[u64]) -> Result<Verdict, Error> {
     // SAFETY: each pointer and length is that of a live slice; the library writes to neither and keeps neither.
     let reply = unsafe { ffi::warm_verdict(sheet.as_ptr(), sheet.len(), plan.as_ptr(), plan.len()) };
@@ -327,9 +372,9 @@ pub fn verdict(sheet: &[u8], plan: &[u64]) -> Result<Verdict, Error> {
 
 /// The sheet of so many units, with this bound, this start set and these steps, into the first bytes of `output`. They are lent back.
 ///
-/// There must be 1 to 64 units, no unit from that number up in the start set, and at most 256 steps. The records are the steps in order, tags
-/// included. The steps themselves are not tested: the other functions may refuse the sheet with 6 or 7. If they do not, [`steps`] gives back
-/// what it was written from.
+/// The sheet is of edition 1: all units are in chamber 1. There must be 1 to 64 units, no unit from that number up in the start set, and at
+/// most 256 steps. The records are the steps in order, tags included. The steps themselves are not tested: the other functions may refuse the
+/// sheet with 6 or 7. If they do not, [`steps`] gives back what it was written from, each [`Step`] as a [`ChamberStep`].
 ///
 /// ```
 /// let steps = [0b001, 0b010, 0b100, 0b001].map(|lower| warm::Step::new(lower, 0b111, 0, 2, 0));

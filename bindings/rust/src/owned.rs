@@ -1,6 +1,6 @@
 //! The entries with outputs of their own, of exactly as many places as they fill.
 
-use crate::{chart, plan, step_count, steps, write, Campaign, Chart, Error, Plan, Step, STEPS};
+use crate::{chart, plan, step_count, steps, write, Campaign, ChamberStep, Chart, Error, Plan, Step, STEPS};
 use alloc::vec;
 use alloc::vec::Vec;
 
@@ -8,11 +8,11 @@ use alloc::vec::Vec;
 ///
 /// # Errors
 ///
-/// Refusals 1 to 7.
-pub fn steps_vec(sheet: &[u8]) -> Result<Campaign<Vec<Step>>, Error> {
-    let mut list = vec![Step::default(); step_count(sheet)?];
-    let Campaign { units, bound, start, .. } = steps(sheet, &mut list)?;
-    Ok(Campaign { units, bound, start, steps: list })
+/// Refusals 1 to 7, 13 and 14.
+pub fn steps_vec(sheet: &[u8]) -> Result<Campaign<Vec<ChamberStep>>, Error> {
+    let mut list = vec![ChamberStep::default(); step_count(sheet)?];
+    let Campaign { units, bound, start, chambers, .. } = steps(sheet, &mut list)?;
+    Ok(Campaign { units, bound, start, chambers, steps: list })
 }
 
 /// [`plan`] into an output of its own.
@@ -25,7 +25,7 @@ pub fn steps_vec(sheet: &[u8]) -> Result<Campaign<Vec<Step>>, Error> {
 ///
 /// # Errors
 ///
-/// Refusals 1 to 7 and 9.
+/// Refusals 1 to 7, 9, 13 and 14.
 pub fn plan_vec(sheet: &[u8]) -> Result<Plan<Vec<u64>>, Error> {
     let mut sets = vec![0; step_count(sheet)?];
     let total = plan(sheet, &mut sets)?.total;
@@ -36,7 +36,7 @@ pub fn plan_vec(sheet: &[u8]) -> Result<Plan<Vec<u64>>, Error> {
 ///
 /// # Errors
 ///
-/// Refusals 1 to 7 and 9.
+/// Refusals 1 to 7, 9, 13 and 14.
 pub fn chart_vec(sheet: &[u8]) -> Result<Chart<Vec<u64>>, Error> {
     let count = step_count(sheet)?;
     let (mut on, mut off) = (vec![0; count], vec![0; count]);

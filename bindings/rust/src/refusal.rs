@@ -7,12 +7,12 @@ use core::fmt;
 #[repr(u32)]
 #[non_exhaustive]
 pub enum Refusal {
-    /// 1: the sheet is shorter than 24 or longer than 6,168 bytes. [`Place::Whole`].
+    /// 1: the sheet is shorter than 24 or longer than 8,216 bytes. [`Place::Whole`].
     Length = 1,
-    /// 2: the letters are not WARM, byte 0; or the edition is not 1, byte 4. [`Place::Byte`].
+    /// 2: the letters are not WARM, byte 0; or the edition is not 1 or 2, byte 4. [`Place::Byte`].
     Form = 2,
-    /// 3: the number of units is not 1 to 64, byte 5; or there are more than 256 records, byte 6; or bytes 12 to 15 are not zero, byte 12; or
-    /// the start set has a unit that the sheet has not, byte 16; or the length is not that of the header and the records, byte 24.
+    /// 3: the number of units is not 1 to 64, byte 5; or there are more than 256 records, byte 6; or bytes 12 to 15 are not zero in edition 1,
+    /// byte 12; or the start set has a unit that the sheet has not, byte 16; or the length is not that of the header and the records, byte 24.
     /// [`Place::Byte`].
     Header = 3,
     /// 4: the number of the first or the next record is above the number of records. [`Place::Record`]: the one that holds it, 0 for the
@@ -34,6 +34,10 @@ pub enum Refusal {
     Limits = 11,
     /// 12: the output is shorter than the sheet. [`Place::Count`]: the bytes of the sheet.
     NoRoom = 12,
+    /// 13: the chamber sizes in edition 2 do not add up to the number of units, byte 12. [`Place::Byte`].
+    ChamberSizes = 13,
+    /// 14: bytes 26 to 27 of the step's record are not zero in edition 2. [`Place::Step`].
+    ReservedBytes = 14,
 }
 
 impl Refusal {
@@ -51,6 +55,8 @@ impl Refusal {
         Refusal::PlanLength,
         Refusal::Limits,
         Refusal::NoRoom,
+        Refusal::ChamberSizes,
+        Refusal::ReservedBytes,
     ];
 
     /// The number of the cause.
@@ -64,9 +70,9 @@ impl Refusal {
     pub const fn place(self, number: u32) -> Place {
         match self {
             Refusal::Length | Refusal::Limits => Place::Whole,
-            Refusal::Form | Refusal::Header => Place::Byte(number),
+            Refusal::Form | Refusal::Header | Refusal::ChamberSizes => Place::Byte(number),
             Refusal::RecordNumber | Refusal::Loop => Place::Record(number),
-            Refusal::UpperSet | Refusal::NoSet => Place::Step(number),
+            Refusal::UpperSet | Refusal::NoSet | Refusal::ReservedBytes => Place::Step(number),
             Refusal::ShortOutput | Refusal::Bound | Refusal::PlanLength | Refusal::NoRoom => Place::Count(number),
         }
     }
@@ -162,12 +168,12 @@ impl Error {
     pub const fn cause(self) -> &'static str {
         let Error::Refused { refusal, place } = self else { return UNKNOWN };
         match (refusal, place.number()) {
-            (Refusal::Length, _) => "the sheet is shorter than 24 or longer than 6,168 bytes",
+            (Refusal::Length, _) => "the sheet is shorter than 24 or longer than 8,216 bytes",
             (Refusal::Form, 0) => "the letters are not WARM",
-            (Refusal::Form, 4) => "the edition is not 1",
+            (Refusal::Form, 4) => "the edition is not 1 or 2",
             (Refusal::Header, 5) => "the number of units is not 1 to 64",
             (Refusal::Header, 6) => "there are more than 256 records",
-            (Refusal::Header, 12) => "bytes 12 to 15 are not zero",
+            (Refusal::Header, 12) => "bytes 12 to 15 are not zero in edition 1",
             (Refusal::Header, 16) => "the start set has a unit that the sheet has not",
             (Refusal::Header, 24) => "the length is not that of the header and the records",
             (Refusal::RecordNumber, _) => "the number of the first or the next record is above the number of records",
@@ -181,7 +187,9 @@ impl Error {
                 "the number of units, the start set or the number of steps is outside the limits of a sheet"
             }
             (Refusal::NoRoom, _) => "the output is shorter than the sheet",
-            (Refusal::Form | Refusal::Header, _) => UNKNOWN,
+            (Refusal::ChamberSizes, 12) => "the chamber sizes in edition 2 do not add up to the number of units",
+            (Refusal::ReservedBytes, _) => "bytes 26 to 27 of the step's record are not zero in edition 2",
+            (Refusal::Form | Refusal::Header | Refusal::ChamberSizes, _) => UNKNOWN,
         }
     }
 }

@@ -6,7 +6,7 @@ mod reference;
 
 use common::judge::Judge;
 use common::random::Random;
-use common::sheets::{draw, four_runs, set_bound, Family};
+use common::sheets::{draw, four_runs, one_chamber, set_bound, some_chambers, Family, Rack, Racks};
 use reference::replies::Replies;
 use warm::{Error, Place, Refusal};
 
@@ -18,14 +18,15 @@ fn lengths(n: usize) -> Vec<usize> {
     lengths
 }
 
-#[test]
-fn all_lengths() {
-    let mut judge = Judge::new(41);
-    let mut random = Random::new(41);
+fn compare_all_lengths(seed: u64, racks: Racks) -> Judge {
+    let mut judge = Judge::new(seed);
+    let mut random = Random::new(seed);
     for steps in [0, 1, 2, 3, 5, 8, 17, 40, 255, 256] {
         for family in Family::ALL {
             let units = random.between(1, 6);
-            let campaign = draw(family, units, steps, &mut random);
+            let rack = racks(units, &mut random);
+            rack.count(&mut judge.tally);
+            let campaign = draw(family, rack, steps, &mut random);
             let mut sheet = campaign.scattered((256 - steps).min(3), &mut random);
             let replies = Replies::new(&sheet);
             // With room, and with a bound that is too low, if one is.
@@ -36,7 +37,6 @@ fn all_lengths() {
             }
         }
     }
-    judge.tally.print("all lengths");
     judge.tally.require_refusals([8, 9], 1000);
     judge.tally.require_refusals([10], 500);
     judge.tally.require(&[
@@ -46,6 +46,20 @@ fn all_lengths() {
         ("accepted", 50),
         ("turned down", 20),
     ]);
+    judge
+}
+
+#[test]
+fn all_lengths() {
+    let judge = compare_all_lengths(41, one_chamber);
+    judge.tally.print("all lengths");
+}
+
+#[test]
+fn all_lengths_in_chambers() {
+    let judge = compare_all_lengths(43, some_chambers);
+    judge.tally.print("all lengths in chambers");
+    Rack::require(&judge.tally, 5);
 }
 
 fn each_length(judge: &mut Judge, sheet: &[u8], expected: &Replies) {
@@ -84,7 +98,7 @@ fn empty_slices() {
     let other_length = Error::Refused { refusal: Refusal::PlanLength, place: Place::Count(4) };
     assert_eq!(warm::verdict(&sheet, &[]), Err(other_length));
     let no_room = |bytes| Error::Refused { refusal: Refusal::NoRoom, place: Place::Count(bytes) };
-    assert_eq!(warm::write(3, 3, 0, &four_runs().steps, &mut []), Err(no_room(120)));
+    assert_eq!(warm::write(3, 3, 0, &four_runs().written_steps(), &mut []), Err(no_room(120)));
     assert_eq!(warm::write(1, 0, 0, &[], &mut []), Err(no_room(24)));
     let none = Error::Refused { refusal: Refusal::Length, place: Place::Whole };
     assert_eq!(warm::steps(&[], &mut []), Err(none));
@@ -93,13 +107,14 @@ fn empty_slices() {
     assert_eq!(warm::verdict(&[], &[]), Err(none));
 }
 
-/// Several threads at once get what one gets.
+/// Several threads at once get what one gets, on sheets of both editions.
 #[test]
 fn threads() {
     let mut random = Random::new(42);
-    let sheets: Vec<Vec<u8>> = (0..200)
+    let sheets: Vec<Vec<u8>> = (0..400)
         .map(|i| {
-            let mut campaign = draw(Family::ALL[i % 8], 1 + i % 12, i % 20, &mut random);
+            let rack = if i < 200 { one_chamber } else { some_chambers }(1 + i % 12, &mut random);
+            let mut campaign = draw(Family::ALL[i % 8], rack, i % 20, &mut random);
             campaign.bound = (i % 40) as u16;
             campaign.scattered(i % 5, &mut random)
         })

@@ -1,17 +1,20 @@
-//! Sheets with faults: directed ones with their numbers and places written by hand, pairs of them, and thousands drawn. All four entries that
-//! read a sheet against the reference. And sheets that differ in job tags and unused records only, which must get the same replies.
+//! Sheets of both editions with faults: directed ones with their numbers and places written by hand, pairs of them, and thousands drawn; and
+//! lengths of all kinds. All four entries that read a sheet against the reference. And sheets that differ in job tags and unused records only,
+//! which must get the same replies.
 
 mod common;
 mod reference;
 
 use common::judge::{hex, Judge};
 use common::random::Random;
-use common::sheets::{draw, four_runs, set_bound, Campaign, Family};
+use common::sheets::{
+    draw, four_runs, one_chamber, set_bound, some_chambers, two_chambers, Campaign, Family, Rack, Racks,
+};
 use common::tally::Tally;
-use reference::reading::{check_header, walk};
+use reference::reading::{check_header, length, record_at, walk};
 use reference::replies::Replies;
 use reference::Refusal;
-use warm::{Error, Step, Verdict, STEPS};
+use warm::{ChamberStep, Error, Verdict, BYTES, CHAMBERS, STEPS};
 
 /// One thing that is wrong with a sheet.
 #[derive(Clone, Copy, Debug)]
@@ -25,19 +28,21 @@ enum Fault {
 use Fault::{Bytes, Length};
 
 /// For "Four runs", whose records 1 to 4 are steps 1 to 4: the faults with their refusals.
-const FAULTS: [(Fault, Refusal); 53] = [
+const FAULTS: &[(Fault, Refusal)] = &[
     (Length(0), (1, 0)),
     (Length(1), (1, 0)),
     (Length(23), (1, 0)),
-    (Length(6169), (1, 0)),
-    (Length(6192), (1, 0)),
+    (Length(8217), (1, 0)),
+    (Length(8240), (1, 0)),
     (Length(100_000), (1, 0)),
     (Bytes(0, b"w"), (2, 0)),
     (Bytes(1, b"a"), (2, 0)),
     (Bytes(2, b"r"), (2, 0)),
     (Bytes(3, b"\0"), (2, 0)),
     (Bytes(4, &[0]), (2, 4)),
-    (Bytes(4, &[2]), (2, 4)),
+    (Bytes(4, &[3]), (2, 4)),
+    // In edition 2 its chambers have no unit.
+    (Bytes(4, &[2]), (13, 12)),
     (Bytes(5, &[0]), (3, 5)),
     (Bytes(5, &[65]), (3, 5)),
     (Bytes(5, &[255]), (3, 5)),
@@ -56,6 +61,8 @@ const FAULTS: [(Fault, Refusal); 53] = [
     (Length(121), (3, 24)),
     (Length(144), (3, 24)),
     (Length(6168), (3, 24)),
+    (Length(6169), (3, 24)),
+    (Length(8216), (3, 24)),
     (Bytes(8, &[5]), (4, 0)),
     (Bytes(8, &[0, 1]), (4, 0)),
     (Bytes(8, &[255, 255]), (4, 0)),
@@ -85,6 +92,86 @@ const FAULTS: [(Fault, Refusal); 53] = [
     (Bytes(64, &[255, 255]), (7, 2)),
 ];
 
+/// The same for "Two chambers", of edition 2, whose records 1 to 4, too, are steps 1 to 4, and begin at bytes 24, 56, 88 and 120.
+const CHAMBER_FAULTS: &[(Fault, Refusal)] = &[
+    (Length(0), (1, 0)),
+    (Length(23), (1, 0)),
+    (Length(8217), (1, 0)),
+    (Length(100_000), (1, 0)),
+    (Bytes(0, b"w"), (2, 0)),
+    (Bytes(3, b"\0"), (2, 0)),
+    (Bytes(4, &[0]), (2, 4)),
+    (Bytes(4, &[3]), (2, 4)),
+    (Bytes(4, &[255]), (2, 4)),
+    (Bytes(5, &[0]), (3, 5)),
+    (Bytes(5, &[65]), (3, 5)),
+    (Bytes(6, &[1, 1]), (3, 6)),
+    (Bytes(6, &[255, 255]), (3, 6)),
+    // In edition 1 these bytes are zero.
+    (Bytes(4, &[1]), (3, 12)),
+    // Five units, but not for these sizes.
+    (Bytes(5, &[4]), (13, 12)),
+    (Bytes(5, &[6]), (13, 12)),
+    (Bytes(5, &[64]), (13, 12)),
+    (Bytes(12, &[2]), (13, 12)),
+    (Bytes(12, &[5]), (13, 12)),
+    (Bytes(12, &[0, 0, 0, 0]), (13, 12)),
+    (Bytes(13, &[3]), (13, 12)),
+    (Bytes(14, &[1]), (13, 12)),
+    (Bytes(15, &[255]), (13, 12)),
+    // The sum is 5 more than 256, 512 and 768.
+    (Bytes(12, &[3, 2, 128, 128]), (13, 12)),
+    (Bytes(12, &[255, 6, 0, 0]), (13, 12)),
+    (Bytes(12, &[255, 255, 7, 0]), (13, 12)),
+    (Bytes(12, &[255, 255, 255, 8]), (13, 12)),
+    (Bytes(16, &[32]), (3, 16)),
+    (Bytes(23, &[128]), (3, 16)),
+    (Bytes(6, &[3]), (3, 24)),
+    (Bytes(6, &[0, 1]), (3, 24)),
+    (Length(24), (3, 24)),
+    (Length(120), (3, 24)),
+    (Length(151), (3, 24)),
+    (Length(153), (3, 24)),
+    (Length(160), (3, 24)),
+    (Length(184), (3, 24)),
+    (Length(6168), (3, 24)),
+    (Length(8216), (3, 24)),
+    (Bytes(8, &[5]), (4, 0)),
+    (Bytes(8, &[255, 255]), (4, 0)),
+    (Bytes(48, &[5]), (4, 1)),
+    (Bytes(80, &[3, 1]), (4, 2)),
+    (Bytes(144, &[5]), (4, 4)),
+    (Bytes(48, &[1]), (5, 1)),
+    (Bytes(80, &[1]), (5, 2)),
+    (Bytes(112, &[2]), (5, 3)),
+    (Bytes(144, &[4]), (5, 4)),
+    (Bytes(50, &[1]), (14, 1)),
+    (Bytes(51, &[128]), (14, 1)),
+    (Bytes(82, &[0, 1]), (14, 2)),
+    (Bytes(114, &[255, 255]), (14, 3)),
+    (Bytes(147, &[1]), (14, 4)),
+    (Bytes(32, &[63]), (6, 1)),
+    (Bytes(71, &[128]), (6, 2)),
+    (Bytes(128, &[255]), (6, 4)),
+    // A unit that must be on and may not.
+    (Bytes(24, &[33]), (7, 1)),
+    (Bytes(96, &[27]), (7, 3)),
+    // Least above greatest, in each chamber.
+    (Bytes(40, &[3]), (7, 1)),
+    (Bytes(73, &[2]), (7, 2)),
+    (Bytes(74, &[1]), (7, 2)),
+    (Bytes(107, &[1]), (7, 3)),
+    // More of a chamber must be on than its greatest number.
+    (Bytes(108, &[0]), (7, 3)),
+    (Bytes(120, &[25]), (7, 4)),
+    // Fewer of a chamber may be on than its least number, though there are enough in all.
+    (Bytes(136, &[0, 3, 0, 0, 2, 3]), (7, 4)),
+    (Bytes(64, &[7]), (7, 2)),
+    // A least number of a chamber that is empty.
+    (Bytes(74, &[1, 0, 2, 1, 255]), (7, 2)),
+    (Bytes(139, &[1, 2, 1, 0, 1]), (7, 4)),
+];
+
 /// The sheet with faults. Lengths come last, so that every byte that is changed is there.
 fn with_faults(sheet: &[u8], faults: &[Fault]) -> Vec<u8> {
     let mut bytes = sheet.to_vec();
@@ -101,41 +188,117 @@ fn with_faults(sheet: &[u8], faults: &[Fault]) -> Vec<u8> {
     bytes
 }
 
-#[test]
-fn directed_faults() {
-    let mut judge = Judge::new(31);
-    let sheet = four_runs().bytes();
-    for (fault, refusal) in FAULTS {
-        let bytes = with_faults(&sheet, &[fault]);
+fn compare_directed(seed: u64, sheet: &[u8], faults: &[(Fault, Refusal)]) -> Judge {
+    let mut judge = Judge::new(seed);
+    for &(fault, refusal) in faults {
+        let bytes = with_faults(sheet, &[fault]);
         let expected = Replies::new(&bytes);
         assert_eq!(expected.sheet.as_ref().err(), Some(&refusal), "{fault:?}");
         judge.all(&bytes, &expected);
     }
-    judge.tally.print("directed faults");
     judge.tally.require_refusals(1..=7, 12);
+    judge
+}
+
+#[test]
+fn directed_faults() {
+    let judge = compare_directed(31, &four_runs().bytes(), FAULTS);
+    judge.tally.print("directed faults");
+}
+
+#[test]
+fn directed_faults_in_chambers() {
+    let judge = compare_directed(38, &two_chambers().bytes(), CHAMBER_FAULTS);
+    judge.tally.print("directed faults in chambers");
+    judge.tally.require_refusals([13, 14], 20);
+}
+
+fn compare_pairs(seed: u64, sheet: &[u8], faults: &[(Fault, Refusal)]) -> Judge {
+    let mut judge = Judge::new(seed);
+    for &(one, _) in faults {
+        for &(other, _) in faults {
+            let bytes = with_faults(sheet, &[one, other]);
+            judge.all(&bytes, &Replies::new(&bytes));
+        }
+    }
+    judge.tally.require_refusals(1..=7, 150);
+    judge
 }
 
 #[test]
 fn pairs_of_faults() {
-    let mut judge = Judge::new(32);
-    let sheet = four_runs().bytes();
-    for (one, _) in FAULTS {
-        for (other, _) in FAULTS {
-            let bytes = with_faults(&sheet, &[one, other]);
-            judge.all(&bytes, &Replies::new(&bytes));
+    let judge = compare_pairs(32, &four_runs().bytes(), FAULTS);
+    judge.tally.print("pairs of faults");
+}
+
+#[test]
+fn pairs_of_faults_in_chambers() {
+    let judge = compare_pairs(39, &two_chambers().bytes(), CHAMBER_FAULTS);
+    judge.tally.print("pairs of faults in chambers");
+    judge.tally.require_refusals([13, 14], 500);
+}
+
+/// Every byte as the edition of a sheet of either edition.
+#[test]
+fn editions() {
+    let mut judge = Judge::new(40);
+    for (own, sheet) in [(1, four_runs().bytes()), (2, two_chambers().bytes())] {
+        for edition in 0..=255 {
+            let mut bytes = sheet.clone();
+            bytes[4] = edition;
+            let expected = Replies::new(&bytes);
+            let refusal = match edition {
+                _ if edition == own => None,
+                1 => Some((3, 12)),
+                2 => Some((13, 12)),
+                _ => Some((2, 4)),
+            };
+            assert_eq!(expected.sheet.as_ref().err().copied(), refusal, "edition {edition}");
+            judge.all(&bytes, &expected);
         }
     }
-    judge.tally.print("pairs of faults");
-    judge.tally.require_refusals(1..=7, 150);
+    judge.tally.print("editions");
+    judge.tally.require(&[("plans", 2), ("refusal 2", 2000)]);
+}
+
+/// Sheets without a step, whose length is that of their records or another one, in each edition.
+#[test]
+fn lengths() {
+    let mut judge = Judge::new(44);
+    let mut lengths: Vec<usize> = [6168, 6192, 8184, BYTES].into_iter().flat_map(|at| at - 33..=at + 33).collect();
+    lengths.extend((0..=200).chain([12_000, 65_536]));
+    for rack in [Rack::from(3), Rack::from([1, 0, 2, 0])] {
+        let header = Campaign { rack, bound: 0, start: 5, steps: vec![] }.bytes();
+        for records in [0, 1, 2, 4, 191, 192, 193, 255, 256, 257] {
+            for &places in &lengths {
+                let mut bytes = header.clone();
+                bytes[6..8].copy_from_slice(&(records as u16).to_le_bytes());
+                bytes.resize(places, 0xA5);
+                let expected = Replies::new(&bytes);
+                let refusal = match places {
+                    _ if !(24..=8216).contains(&places) => Some((1, 0)),
+                    _ if records > 256 => Some((3, 6)),
+                    _ if places != 24 + rack.record() * records => Some((3, 24)),
+                    _ => None,
+                };
+                assert_eq!(expected.sheet.as_ref().err().copied(), refusal, "{records} records in {places} bytes");
+                judge.all(&bytes, &expected);
+            }
+        }
+    }
+    judge.tally.print("lengths");
+    judge.tally.require(&[("plans", 18)]);
+    judge.tally.require_refusals([1, 3], 1000);
 }
 
 /// A small sheet that passes the checks, with any bound.
-fn draw_small(random: &mut Random) -> Vec<u8> {
+fn draw_small(racks: Racks, random: &mut Random) -> Vec<u8> {
     let units = if random.one_in(4) { random.between(9, 64) } else { random.between(1, 8) };
+    let rack = racks(units, random);
     let steps = random.below(7);
     let family = random.pick(&Family::ALL);
     let bound = random.pick(&[0, 3, 10, u16::MAX]);
-    let campaign = Campaign { bound, ..draw(family, units, steps, random) };
+    let campaign = Campaign { bound, ..draw(family, rack, steps, random) };
     let unused = random.below(4);
     campaign.scattered(unused, random)
 }
@@ -157,14 +320,19 @@ fn change_bytes(bytes: &mut [u8], random: &mut Random) {
 
 /// Records of garbage, tamed by and by so that each later check is reached.
 fn garbage_records(bytes: &mut [u8], random: &mut Random) {
-    let records = bytes.len() / 24 - 1;
+    let (size, next_at, numbers) = if bytes[4] == 1 { (24, 18, 1) } else { (32, 24, CHAMBERS) };
+    let records = (bytes.len() - 24) / size;
     let tamed = random.below(4);
     let mask = (1u64 << (bytes[5] % 64)).wrapping_sub(1);
-    for record in bytes.chunks_exact_mut(24).skip(1) {
-        record.copy_from_slice(&random.bytes(24));
+    for record in bytes[24..].chunks_exact_mut(size) {
+        record.copy_from_slice(&random.bytes(size));
         if tamed >= 1 {
             let next = random.below(records + 2);
-            record[18..20].copy_from_slice(&(next as u16).to_le_bytes());
+            record[next_at..next_at + 2].copy_from_slice(&(next as u16).to_le_bytes());
+        }
+        // In edition 2.
+        if tamed >= 1 && size == 32 && !random.one_in(4) {
+            record[26..28].fill(0);
         }
         if tamed >= 2 {
             let upper = random.word() & mask;
@@ -172,13 +340,13 @@ fn garbage_records(bytes: &mut [u8], random: &mut Random) {
         }
         if tamed >= 3 {
             record[0..8].fill(0);
-            record[16] = random.below(2) as u8;
+            record[16..16 + numbers].fill_with(|| random.below(2) as u8);
         }
     }
 }
 
-fn draw_damaged(random: &mut Random) -> Vec<u8> {
-    let mut bytes = draw_small(random);
+fn draw_damaged(racks: Racks, random: &mut Random) -> Vec<u8> {
+    let mut bytes = draw_small(racks, random);
     match random.below(12) {
         0 => {
             let length = random.below(bytes.len());
@@ -194,7 +362,7 @@ fn draw_damaged(random: &mut Random) -> Vec<u8> {
             bytes = random.bytes(length);
         }
         6 => {
-            let length = random.between(6169, 6300);
+            let length = random.between(6169, 6300) + random.pick(&[0, BYTES - 6168]);
             bytes.resize(length, random.byte());
         }
         _ => change_bytes(&mut bytes, random),
@@ -202,25 +370,37 @@ fn draw_damaged(random: &mut Random) -> Vec<u8> {
     bytes
 }
 
-#[test]
-fn drawn_faults() {
-    let mut judge = Judge::new(33);
-    let mut random = Random::new(33);
+fn compare_drawn(seed: u64, racks: Racks) -> Judge {
+    let mut judge = Judge::new(seed);
+    let mut random = Random::new(seed);
     for _ in 0..16_000 {
-        let bytes = draw_damaged(&mut random);
+        let bytes = draw_damaged(racks, &mut random);
         judge.all(&bytes, &Replies::new(&bytes));
     }
-    judge.tally.print("drawn faults");
     judge.tally.require_refusals(1..=7, 1000);
     judge.tally.require_refusals([9], 500);
     judge.tally.require(&[("plans", 500), ("charts", 500), ("accepted", 500), ("turned down", 200)]);
+    judge
+}
+
+#[test]
+fn drawn_faults() {
+    let judge = compare_drawn(33, one_chamber);
+    judge.tally.print("drawn faults");
+}
+
+#[test]
+fn drawn_faults_in_chambers() {
+    let judge = compare_drawn(45, some_chambers);
+    judge.tally.print("drawn faults in chambers");
+    judge.tally.require_refusals([13, 14], 1000);
 }
 
 /// All that the library answers to a sheet, the lists of steps without their tags.
 #[derive(Debug, PartialEq)]
 struct Answers {
-    header: Result<(u32, u32, u64, usize), Error>,
-    list: Vec<Step>,
+    header: Result<(u32, u32, u64, [u32; CHAMBERS], usize), Error>,
+    list: Vec<ChamberStep>,
     plan: Result<u32, Error>,
     chart: Result<u32, Error>,
     words: [[u64; STEPS]; 3],
@@ -228,13 +408,14 @@ struct Answers {
 }
 
 fn answers(bytes: &[u8]) -> Answers {
-    let mut list = vec![Step::default(); STEPS];
+    let mut list = vec![ChamberStep::default(); STEPS];
     let mut words = [[7; STEPS]; 3];
     let [plan_words, on, off] = &mut words;
-    let header = warm::steps(bytes, &mut list).map(|said| (said.units, said.bound, said.start, said.steps.len()));
+    let header =
+        warm::steps(bytes, &mut list).map(|said| (said.units, said.bound, said.start, said.chambers, said.steps.len()));
     let plan = warm::plan(bytes, plan_words).map(|plan| plan.total);
     let chart = warm::chart(bytes, on, off).map(|chart| chart.total);
-    let verdict = warm::verdict(bytes, &plan_words[..header.map_or(0, |header| header.3)]);
+    let verdict = warm::verdict(bytes, &plan_words[..header.map_or(0, |header| header.4)]);
     for step in &mut list {
         step.tag = 0;
     }
@@ -244,20 +425,22 @@ fn answers(bytes: &[u8]) -> Answers {
 /// The same sheet with other tags on the chain and other bytes in the unused records.
 fn twin(bytes: &[u8], random: &mut Random) -> Vec<u8> {
     let (chain, _) = walk(bytes);
+    let (edition, records) = (bytes[4], usize::from(u16::from_le_bytes([bytes[6], bytes[7]])));
     let mut other = bytes.to_vec();
-    for (record, place) in other.chunks_exact_mut(24).enumerate().skip(1) {
-        let from = if chain.contains(&record) { 20 } else { 0 };
-        place[from..].copy_from_slice(&random.bytes(24 - from));
+    for record in 1..=records {
+        // The next record, or the end of the sheet, begins where this one ends.
+        let (at, end) = (record_at(edition, record), length(edition, record));
+        let from = if chain.contains(&record) { end - 4 } else { at };
+        other[from..end].copy_from_slice(&random.bytes(end - from));
     }
     other
 }
 
-#[test]
-fn twins() {
+fn compare_twins(seed: u64, racks: Racks) -> Tally {
     let mut tally = Tally::default();
-    let mut random = Random::new(35);
+    let mut random = Random::new(seed);
     for _ in 0..4000 {
-        let mut bytes = draw_small(&mut random);
+        let mut bytes = draw_small(racks, &mut random);
         match random.below(4) {
             0 => garbage_records(&mut bytes, &mut random),
             1 => set_bound(&mut bytes, 0),
@@ -275,7 +458,20 @@ fn twins() {
             Err(error) => tally.add_refusal(error.numbers().0),
         }
     }
-    tally.print("twins");
     tally.require(&[("plans", 500)]);
     tally.require_refusals([4, 5, 6, 7, 9], 50);
+    tally
+}
+
+#[test]
+fn twins() {
+    let tally = compare_twins(35, one_chamber);
+    tally.print("twins");
+}
+
+#[test]
+fn twins_in_chambers() {
+    let tally = compare_twins(46, some_chambers);
+    tally.print("twins in chambers");
+    tally.require_refusals([14], 50);
 }

@@ -1,12 +1,12 @@
-//! Drawn sheets that pass the checks, at bounds below, at and above the fewest warm-ups: all four entries that read a sheet against the
-//! reference.
+//! Drawn sheets of both editions that pass the checks, at bounds below, at and above the fewest warm-ups: all four entries that read a sheet
+//! against the reference.
 
 mod common;
 mod reference;
 
 use common::judge::{hex, Judge};
 use common::random::Random;
-use common::sheets::{draw, set_bound, Campaign, Family};
+use common::sheets::{draw, one_chamber, set_bound, some_chambers, Campaign, Family, Rack, Racks};
 use reference::exact::Exact;
 use reference::replies::Replies;
 use reference::{has, Sheet};
@@ -33,37 +33,55 @@ fn bounds(fewest: u32) -> Vec<u16> {
     below.into_iter().chain([fewest, fewest + 1, fewest + 2, u16::MAX]).collect()
 }
 
-/// The sheet of a drawn campaign of each family, `rounds` times.
-fn for_each_sheet(
+/// Sheets that are drawn: from a seed, one of each family so many times, on such racks.
+#[derive(Clone, Copy)]
+struct Draws {
     seed: u64,
     rounds: usize,
+    racks: Racks,
+}
+
+/// The seed and the rounds of sheets of edition 1.
+fn edition_1(seed: u64, rounds: usize) -> Draws {
+    Draws { seed, rounds, racks: one_chamber }
+}
+
+/// The seed and the rounds of sheets of edition 2.
+fn edition_2(seed: u64, rounds: usize) -> Draws {
+    Draws { seed, rounds, racks: some_chambers }
+}
+
+/// The sheets of drawn campaigns, each of so many units and steps.
+fn for_each_sheet(
+    draws: Draws,
     size: impl Fn(&mut Random) -> (usize, usize),
-    mut compare: impl FnMut(Vec<u8>, &mut Random),
+    mut compare: impl FnMut(Rack, Vec<u8>, &mut Random),
 ) {
-    let mut random = Random::new(seed);
-    for _ in 0..rounds {
+    let mut random = Random::new(draws.seed);
+    for _ in 0..draws.rounds {
         for family in Family::ALL {
             let (units, steps) = size(&mut random);
-            let sheet = written(&draw(family, units, steps, &mut random), &mut random);
-            compare(sheet, &mut random);
+            let rack = (draws.racks)(units, &mut random);
+            let sheet = written(&draw(family, rack, steps, &mut random), &mut random);
+            compare(rack, sheet, &mut random);
         }
     }
 }
 
 /// Compares all entries at all bounds.
-fn compare_all(judge: &mut Judge, seed: u64, rounds: usize, size: impl Fn(&mut Random) -> (usize, usize)) {
-    compare_by(Exact::new, judge, seed, rounds, size);
+fn compare_all(judge: &mut Judge, draws: Draws, size: impl Fn(&mut Random) -> (usize, usize)) {
+    compare_by(Exact::new, judge, draws, size);
 }
 
 /// The same, with the fewest warm-ups found in one way.
 fn compare_by(
     exact: fn(&Sheet) -> Exact,
     judge: &mut Judge,
-    seed: u64,
-    rounds: usize,
+    draws: Draws,
     size: impl Fn(&mut Random) -> (usize, usize),
 ) {
-    for_each_sheet(seed, rounds, size, |mut sheet, _| {
+    for_each_sheet(draws, size, |rack, mut sheet, _| {
+        rack.count(&mut judge.tally);
         let replies = Replies::by(&sheet, exact);
         for bound in bounds(replies.fewest()) {
             set_bound(&mut sheet, bound);
@@ -74,14 +92,9 @@ fn compare_by(
 }
 
 /// For sheets of any size: whole charts come from forced runs, all else from the flow; and so many cells are looked up in the flow as well.
-fn compare_large(
-    judge: &mut Judge,
-    seed: u64,
-    rounds: usize,
-    lookups: usize,
-    size: impl Fn(&mut Random) -> (usize, usize),
-) {
-    for_each_sheet(seed, rounds, size, |mut sheet, random| {
+fn compare_large(judge: &mut Judge, draws: Draws, lookups: usize, size: impl Fn(&mut Random) -> (usize, usize)) {
+    for_each_sheet(draws, size, |rack, mut sheet, random| {
+        rack.count(&mut judge.tally);
         let (flow, forced) = (Replies::by(&sheet, Exact::flow), Replies::by(&sheet, Exact::forced));
         let cells = draw_cells(&flow, lookups, random);
         for bound in bounds(flow.fewest()) {
@@ -137,16 +150,16 @@ fn finish(judge: &Judge, test: &str, least: u64) {
 #[test]
 fn few_units() {
     let mut judge = Judge::new(11);
-    compare_all(&mut judge, 11, 800, |random| (random.between(1, 8), random.below(13)));
+    compare_all(&mut judge, edition_1(11, 800), |random| (random.between(1, 8), random.below(13)));
     finish(&judge, "few units", 20_000);
 }
 
 #[test]
 fn few_units_many_steps() {
     let mut judge = Judge::new(12);
-    compare_all(&mut judge, 12, 80, |random| (random.between(1, 12), random.between(13, 64)));
-    compare_all(&mut judge, 13, 20, |random| (random.between(1, 12), random.between(65, 256)));
-    compare_all(&mut judge, 14, 2, |_| (12, 256));
+    compare_all(&mut judge, edition_1(12, 80), |random| (random.between(1, 12), random.between(13, 64)));
+    compare_all(&mut judge, edition_1(13, 20), |random| (random.between(1, 12), random.between(65, 256)));
+    compare_all(&mut judge, edition_1(14, 2), |_| (12, 256));
     finish(&judge, "few units, many steps", 3000);
 }
 
@@ -154,32 +167,34 @@ fn few_units_many_steps() {
 #[test]
 fn sixteen_units() {
     let mut judge = Judge::new(21);
-    compare_by(Exact::all_sets, &mut judge, 21, 2, |random| (random.between(13, 16), random.between(17, 256)));
-    compare_by(Exact::all_sets, &mut judge, 22, 1, |_| (16, 256));
+    compare_by(Exact::all_sets, &mut judge, edition_1(21, 2), |random| {
+        (random.between(13, 16), random.between(17, 256))
+    });
+    compare_by(Exact::all_sets, &mut judge, edition_1(22, 1), |_| (16, 256));
     finish(&judge, "sixteen units", 80);
 }
 
 #[test]
 fn many_units_few_steps() {
     let mut judge = Judge::new(15);
-    compare_all(&mut judge, 15, 60, |random| (random.between(13, 64), random.below(9)));
-    compare_all(&mut judge, 16, 6, |random| (random.between(40, 64), random.between(9, 24)));
-    compare_all(&mut judge, 17, 1, |_| (64, 32));
+    compare_all(&mut judge, edition_1(15, 60), |random| (random.between(13, 64), random.below(9)));
+    compare_all(&mut judge, edition_1(16, 6), |random| (random.between(40, 64), random.between(9, 24)));
+    compare_all(&mut judge, edition_1(17, 1), |_| (64, 32));
     finish(&judge, "many units, few steps", 1500);
 }
 
 #[test]
 fn middle_sizes() {
     let mut judge = Judge::new(18);
-    compare_all(&mut judge, 18, 20, |random| (random.between(13, 24), random.between(9, 48)));
-    compare_all(&mut judge, 19, 2, |random| (random.between(13, 32), random.between(49, 96)));
+    compare_all(&mut judge, edition_1(18, 20), |random| (random.between(13, 24), random.between(9, 48)));
+    compare_all(&mut judge, edition_1(19, 2), |random| (random.between(13, 32), random.between(49, 96)));
     finish(&judge, "middle sizes", 500);
 }
 
 #[test]
 fn any_size() {
     let mut judge = Judge::new(20);
-    compare_large(&mut judge, 20, 10, 40, |random| (random.between(1, 64), random.below(257)));
+    compare_large(&mut judge, edition_1(20, 10), 40, |random| (random.between(1, 64), random.below(257)));
     finish(&judge, "any size", 250);
     judge.tally.require(&[("looked up, can be", 6000), ("looked up, cannot be", 2000)]);
 }
@@ -187,8 +202,70 @@ fn any_size() {
 #[test]
 fn full_size() {
     let mut judge = Judge::new(23);
-    compare_large(&mut judge, 23, 1, 200, |_| (64, 256));
-    compare_large(&mut judge, 24, 1, 200, |random| (random.between(57, 64), random.between(241, 256)));
+    compare_large(&mut judge, edition_1(23, 1), 200, |_| (64, 256));
+    compare_large(&mut judge, edition_1(24, 1), 200, |random| (random.between(57, 64), random.between(241, 256)));
     finish(&judge, "full size", 60);
     judge.tally.require(&[("looked up, can be", 8000), ("looked up, cannot be", 2000)]);
+}
+
+#[test]
+fn few_units_in_chambers() {
+    let mut judge = Judge::new(81);
+    compare_all(&mut judge, edition_2(81, 1000), |random| (random.between(1, 8), random.below(13)));
+    finish(&judge, "few units in chambers", 20_000);
+    Rack::require(&judge.tally, 800);
+}
+
+#[test]
+fn few_units_many_steps_in_chambers() {
+    let mut judge = Judge::new(82);
+    compare_all(&mut judge, edition_2(82, 80), |random| (random.between(1, 12), random.between(13, 64)));
+    compare_all(&mut judge, edition_2(83, 20), |random| (random.between(1, 12), random.between(65, 256)));
+    compare_all(&mut judge, edition_2(84, 2), |_| (12, 256));
+    finish(&judge, "few units, many steps in chambers", 3000);
+    Rack::require(&judge.tally, 100);
+}
+
+#[test]
+fn sixteen_units_in_chambers() {
+    let mut judge = Judge::new(85);
+    compare_by(Exact::all_sets, &mut judge, edition_2(85, 2), |random| {
+        (random.between(13, 16), random.between(17, 256))
+    });
+    compare_by(Exact::all_sets, &mut judge, edition_2(86, 1), |_| (16, 256));
+    finish(&judge, "sixteen units in chambers", 80);
+    Rack::require(&judge.tally, 2);
+}
+
+#[test]
+fn many_units_few_steps_in_chambers() {
+    let mut judge = Judge::new(87);
+    compare_all(&mut judge, edition_2(87, 60), |random| (random.between(13, 64), random.below(9)));
+    compare_all(&mut judge, edition_2(88, 6), |random| (random.between(40, 64), random.between(9, 24)));
+    compare_all(&mut judge, edition_2(89, 1), |_| (64, 32));
+    finish(&judge, "many units, few steps in chambers", 1500);
+    Rack::require(&judge.tally, 80);
+}
+
+#[test]
+fn any_size_in_chambers() {
+    let mut judge = Judge::new(90);
+    compare_large(&mut judge, edition_2(90, 10), 40, |random| (random.between(1, 64), random.below(257)));
+    finish(&judge, "any size in chambers", 250);
+    judge.tally.require(&[("looked up, can be", 6000), ("looked up, cannot be", 2000)]);
+    Rack::require(&judge.tally, 10);
+}
+
+/// As many units and steps as a sheet can have, in drawn chambers, in four alike, and in the last one alone.
+#[test]
+fn full_size_in_chambers() {
+    let mut judge = Judge::new(91);
+    compare_large(&mut judge, edition_2(91, 1), 200, |_| (64, 256));
+    let racks: [Racks; 2] = [|_, _| [16, 16, 16, 16].into(), |_, _| [0, 0, 0, 64].into()];
+    for (seed, racks) in (92..).zip(racks) {
+        compare_large(&mut judge, Draws { seed, rounds: 1, racks }, 50, |_| (64, 256));
+    }
+    finish(&judge, "full size in chambers", 90);
+    judge.tally.require(&[("looked up, can be", 6000), ("looked up, cannot be", 1500)]);
+    judge.tally.require(&[("one chamber", 8), ("four chambers", 8)]);
 }

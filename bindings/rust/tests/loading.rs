@@ -6,7 +6,7 @@ mod common;
 mod reference;
 
 use common::random::Random;
-use common::sheets::{draw, set_bound, Campaign, Family};
+use common::sheets::{draw, one_chamber, set_bound, some_chambers, Campaign, Family, Rack, Racks};
 use common::tally::Tally;
 use reference::exact::Exact;
 use reference::{all_plans, feasible, total, units_below, Sheet};
@@ -15,7 +15,7 @@ use warm::{Error, STEPS};
 /// The least, over all feasible plans, of the warm-ups from the second step on.
 fn least_by_plans(campaign: &Campaign) -> u32 {
     let later_total = |plan: &Vec<u64>| plan.split_first().map_or(0, |(&first, later)| total(first, later));
-    all_plans(campaign.units, &campaign.steps).iter().map(later_total).min().unwrap()
+    all_plans(&campaign.sheet()).iter().map(later_total).min().unwrap()
 }
 
 /// The same, over all feasible sets of the first step: the fewest warm-ups of the later steps with that set on before them.
@@ -23,14 +23,14 @@ fn least_by_first_sets(campaign: &Campaign) -> u32 {
     let Some((first, later)) = campaign.steps.split_first() else {
         return 0;
     };
-    let fewest = |start| Exact::new(&Sheet { units: campaign.units, bound: 0, start, steps: later.to_vec() }).fewest();
-    (0..1 << campaign.units).filter(|&set| feasible(first, set)).map(fewest).min().unwrap()
+    let fewest = |start| Exact::new(&Sheet { start, steps: later.to_vec(), ..campaign.sheet() }).fewest();
+    (0..1 << campaign.units()).filter(|&set| feasible(campaign.rack.chambers, first, set)).map(fewest).min().unwrap()
 }
 
 /// The sheet of a campaign, among unused records, with all units in its start set.
 fn restarted(campaign: &Campaign, random: &mut Random) -> Vec<u8> {
     let mut sheet = campaign.scattered(random.below(4), random);
-    sheet[16..24].copy_from_slice(&units_below(campaign.units).to_le_bytes());
+    sheet[16..24].copy_from_slice(&units_below(campaign.units()).to_le_bytes());
     sheet
 }
 
@@ -43,12 +43,14 @@ fn reported(sheet: &[u8]) -> [Result<u32, (u32, u32)>; 2] {
 }
 
 /// Compares drawn sheets of each family, with bounds below, at and above the least number.
-fn compare(seed: u64, rounds: usize, units: usize, steps: usize, least: fn(&Campaign) -> u32) -> Tally {
+fn compare(seed: u64, rounds: usize, racks: Racks, units: usize, steps: usize, least: fn(&Campaign) -> u32) -> Tally {
     let mut random = Random::new(seed);
     let mut tally = Tally::default();
     for _ in 0..rounds {
         for family in Family::ALL {
-            let campaign = draw(family, random.between(1, units), random.between(0, steps), &mut random);
+            let rack = racks(random.between(1, units), &mut random);
+            rack.count(&mut tally);
+            let campaign = draw(family, rack, random.between(0, steps), &mut random);
             let least = least(&campaign);
             let mut sheet = restarted(&campaign, &mut random);
             for bound in [least.checked_sub(1), Some(least), Some(least + 1)].into_iter().flatten() {
@@ -65,14 +67,30 @@ fn compare(seed: u64, rounds: usize, units: usize, steps: usize, least: fn(&Camp
 
 #[test]
 fn all_plans_of_few_steps() {
-    let tally = compare(41, 400, 4, 5, least_by_plans);
+    let tally = compare(41, 400, one_chamber, 4, 5, least_by_plans);
     tally.print("from the second step on, all plans");
     tally.require(&[("totals", 12_800), ("refusal 9", 1500), ("sheets without a step", 400)]);
 }
 
 #[test]
 fn all_first_sets_of_many_steps() {
-    let tally = compare(42, 40, 7, 60, least_by_first_sets);
+    let tally = compare(42, 40, one_chamber, 7, 60, least_by_first_sets);
     tally.print("from the second step on, all first sets");
     tally.require(&[("totals", 1280), ("refusal 9", 400)]);
+}
+
+#[test]
+fn all_plans_of_few_steps_in_chambers() {
+    let tally = compare(43, 400, some_chambers, 4, 5, least_by_plans);
+    tally.print("from the second step on, all plans in chambers");
+    tally.require(&[("totals", 12_800), ("refusal 9", 1500), ("sheets without a step", 400)]);
+    Rack::require(&tally, 150);
+}
+
+#[test]
+fn all_first_sets_of_many_steps_in_chambers() {
+    let tally = compare(44, 40, some_chambers, 7, 60, least_by_first_sets);
+    tally.print("from the second step on, all first sets in chambers");
+    tally.require(&[("totals", 1280), ("refusal 9", 400)]);
+    Rack::require(&tally, 25);
 }

@@ -19,12 +19,12 @@ fn numbers_in_order() {
 #[test]
 fn lines() {
     let lines = [
-        (Refusal::Length, 0, "refused 1: the sheet is shorter than 24 or longer than 6,168 bytes"),
+        (Refusal::Length, 0, "refused 1: the sheet is shorter than 24 or longer than 8,216 bytes"),
         (Refusal::Form, 0, "refused 2 at byte 0: the letters are not WARM"),
-        (Refusal::Form, 4, "refused 2 at byte 4: the edition is not 1"),
+        (Refusal::Form, 4, "refused 2 at byte 4: the edition is not 1 or 2"),
         (Refusal::Header, 5, "refused 3 at byte 5: the number of units is not 1 to 64"),
         (Refusal::Header, 6, "refused 3 at byte 6: there are more than 256 records"),
-        (Refusal::Header, 12, "refused 3 at byte 12: bytes 12 to 15 are not zero"),
+        (Refusal::Header, 12, "refused 3 at byte 12: bytes 12 to 15 are not zero in edition 1"),
         (Refusal::Header, 16, "refused 3 at byte 16: the start set has a unit that the sheet has not"),
         (Refusal::Header, 24, "refused 3 at byte 24: the length is not that of the header and the records"),
         (
@@ -49,6 +49,16 @@ fn lines() {
             "refused 11: the number of units, the start set or the number of steps is outside the limits of a sheet",
         ),
         (Refusal::NoRoom, 120, "refused 12: the output is shorter than the sheet (120)"),
+        (
+            Refusal::ChamberSizes,
+            12,
+            "refused 13 at byte 12: the chamber sizes in edition 2 do not add up to the number of units",
+        ),
+        (
+            Refusal::ReservedBytes,
+            256,
+            "refused 14 at step 256: bytes 26 to 27 of the step's record are not zero in edition 2",
+        ),
     ];
     for (refusal, number, line) in lines {
         let place = refusal.place(number);
@@ -70,6 +80,8 @@ fn places() {
         (Refusal::Bound, Place::Count(12)),
         (Refusal::Limits, Place::Whole),
         (Refusal::NoRoom, Place::Count(12)),
+        (Refusal::ChamberSizes, Place::Byte(12)),
+        (Refusal::ReservedBytes, Place::Step(12)),
     ] {
         assert_eq!(refusal.place(12), place);
     }
@@ -82,7 +94,7 @@ fn is_an_error() {
         Ok(warm::plan(sheet, &mut [])?.total)
     }
     let error = total(b"WARM").unwrap_err();
-    assert_eq!(error.to_string(), "refused 1: the sheet is shorter than 24 or longer than 6,168 bytes");
+    assert_eq!(error.to_string(), "refused 1: the sheet is shorter than 24 or longer than 8,216 bytes");
     assert!(error.source().is_none());
 }
 
@@ -90,9 +102,14 @@ fn is_an_error() {
 fn constants() {
     let header = include_str!("../../../include/warm.h");
     let version = warm::VERSION as usize;
-    for (name, value) in [("UNITS", warm::UNITS), ("STEPS", warm::STEPS), ("BYTES", warm::BYTES), ("VERSION", version)]
-    {
+    for (name, value) in [
+        ("UNITS", warm::UNITS),
+        ("CHAMBERS", warm::CHAMBERS),
+        ("STEPS", warm::STEPS),
+        ("BYTES", warm::BYTES),
+        ("VERSION", version),
+    ] {
         assert!(header.contains(&format!("#define WARM_{name} {value}\n")), "{name}");
     }
-    assert_eq!((warm::UNITS, warm::STEPS, warm::BYTES), (64, 256, 6168));
+    assert_eq!((warm::UNITS, warm::CHAMBERS, warm::STEPS, warm::BYTES), (64, 4, 256, 8216));
 }

@@ -1,17 +1,18 @@
-//! The program list_sizes on drawn sheets of few units: how few and how many units may be on in each step, against all sets. In half of the
-//! sheets one step has limits that are drawn freely; where no set is feasible in it, the program must refuse the sheet for that step. The
-//! bound is 0, which the program does not look at.
+//! The program list_sizes on drawn sheets of both editions: how few and how many units may be on in each step, of few units against all sets,
+//! of many against the sums over the chambers. In half of the sheets one step has limits that are drawn freely; where no set is feasible in it,
+//! the program must refuse the sheet for that step. The bound is 0, which the program does not look at.
 
 mod common;
 mod reference;
 
 use common::random::Random;
-use common::sheets::{draw, Campaign, Family};
+use common::sheets::{draw, one_chamber, some_chambers, Campaign, Family, Rack, Racks};
 use common::tally::Tally;
+use reference::reading::check_step;
 use reference::{feasible, units_below};
 use std::io::Write;
 use std::process::{Command, Stdio};
-use warm::Step;
+use warm::{ChamberStep, CHAMBERS};
 
 /// Where `rt check list_sizes` puts the program.
 const PROGRAM: &str = concat!(env!("CARGO_MANIFEST_DIR"), "/../../target/bin/list_sizes");
@@ -29,9 +30,16 @@ fn printed(sheet: &[u8]) -> String {
     String::from_utf8(output.stdout).unwrap()
 }
 
-/// The least and the greatest size of a feasible set, from all sets of so many units; none if no set is feasible.
-fn sizes(step: &Step, units: usize) -> Option<(u32, u32)> {
-    let sizes = (0..1u64 << units).filter(|&set| feasible(step, set)).map(u64::count_ones);
+/// For so many units the sizes are found from all sets.
+const FEW: usize = 8;
+
+/// The least and the greatest size of a feasible set; none if no set is feasible.
+fn sizes(step: &ChamberStep, rack: Rack) -> Option<(u32, u32)> {
+    if rack.units() > FEW {
+        return check_step(step, 1, rack.units(), rack.chambers).ok().map(|()| reference::sizes(rack.chambers, step));
+    }
+    let sets = (0..1u64 << rack.units()).filter(|&set| feasible(rack.chambers, step, set));
+    let sizes = sets.map(u64::count_ones);
     Some((sizes.clone().min()?, sizes.max()?))
 }
 
@@ -41,7 +49,7 @@ fn expected(campaign: &Campaign, tally: &mut Tally) -> String {
     let mut several = 0;
     for (i, step) in campaign.steps.iter().enumerate() {
         let number = i + 1;
-        let Some((few, many)) = sizes(step, campaign.units) else {
+        let Some((few, many)) = sizes(step, campaign.rack) else {
             tally.add_refusal(7);
             return format!("refused 7 {number}\n");
         };
@@ -54,30 +62,60 @@ fn expected(campaign: &Campaign, tally: &mut Tally) -> String {
     lines.concat()
 }
 
-/// A step with any limits.
-fn any_step(units: usize, random: &mut Random) -> Step {
-    let all = units_below(units);
+/// A step with any limits: in edition 2, one chamber may have any numbers, and the others have wide ones.
+fn any_step(rack: Rack, random: &mut Random) -> ChamberStep {
+    let all = units_below(rack.units());
     let (lower, upper) = (random.part(all, 5), all & !random.part(all, 5));
-    let mut number = || if random.one_in(4) { random.byte() } else { random.between(0, units) as u8 };
-    let (least, greatest) = (number(), number());
-    Step::new(lower, upper, least, greatest, random.word() as u32)
+    let mut step = ChamberStep::new(lower, upper, [0; CHAMBERS], [0; CHAMBERS], 0);
+    let c = if rack.edition == 1 { 0 } else { random.below(CHAMBERS) };
+    if rack.edition == 2 {
+        step.greatest = rack.chambers.map(|units| units as u8);
+    }
+    let mut number = || if random.one_in(4) { random.byte() } else { random.between(0, rack.chambers[c]) as u8 };
+    (step.least[c], step.greatest[c]) = (number(), number());
+    step.tag = random.word() as u32;
+    step
 }
 
-#[test]
-fn sizes_of_few_units() {
-    let mut random = Random::new(31);
+fn compare(seed: u64, racks: Racks, most: usize) -> Tally {
+    let mut random = Random::new(seed);
     let mut tally = Tally::default();
     for _ in 0..60 {
         for family in Family::ALL {
-            let (units, steps) = (random.between(1, 8), random.between(0, 40));
-            let mut campaign = draw(family, units, steps, &mut random);
+            let (units, steps) = (random.between(1, most), random.between(0, 40));
+            let rack = racks(units, &mut random);
+            rack.count(&mut tally);
+            let mut campaign = draw(family, rack, steps, &mut random);
             if steps > 0 && random.one_in(2) {
-                campaign.steps[random.below(steps)] = any_step(units, &mut random);
+                campaign.steps[random.below(steps)] = any_step(rack, &mut random);
             }
             let sheet = campaign.scattered(random.below(9), &mut random);
             assert_eq!(printed(&sheet), expected(&campaign, &mut tally), "{campaign:?}");
         }
     }
+    tally.require(&[("sheets with sizes", 250), ("several sizes", 3000), ("refusal 7", 50)]);
+    tally
+}
+
+#[test]
+fn sizes_of_few_units() {
+    let tally = compare(31, one_chamber, FEW);
     tally.print("sizes of few units");
-    tally.require(&[("sheets with sizes", 250), ("one size", 3000), ("several sizes", 3000), ("refusal 7", 50)]);
+    tally.require(&[("one size", 3000)]);
+}
+
+#[test]
+fn sizes_of_few_units_in_chambers() {
+    let tally = compare(32, some_chambers, FEW);
+    tally.print("sizes of few units in chambers");
+    tally.require(&[("one size", 3000)]);
+    Rack::require(&tally, 50);
+}
+
+#[test]
+fn sizes_of_many_units_in_chambers() {
+    let tally = compare(33, some_chambers, 64);
+    tally.print("sizes of many units in chambers");
+    tally.require(&[("one size", 800)]);
+    Rack::require(&tally, 50);
 }

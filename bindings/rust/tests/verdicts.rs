@@ -1,33 +1,56 @@
-//! Verdicts on plans made elsewhere: the plan that is handed out, any feasible plan at the bounds around its total, plans that break one
-//! limit in one step, units that the sheet has not, any words, and wrong lengths.
+//! Verdicts on plans made elsewhere, for sheets of both editions: the plan that is handed out, any feasible plan at the bounds around its total,
+//! plans that break one limit in one step, in one chamber, units that the sheet has not, any words, and wrong lengths.
 
 mod common;
 mod reference;
 
 use common::judge::Judge;
 use common::random::Random;
-use common::sheets::{draw, set_bound, Family};
+use common::sheets::{draw, one_chamber, set_bound, some_chambers, Family, Rack, Racks};
 use reference::replies::Replies;
-use reference::{feasible, total, units_below, Sheet};
-use warm::Step;
+use reference::{dealt, feasible, has, total, units_below, Sheet};
+use warm::{ChamberStep, CHAMBERS};
+
+/// The chambers that have units, each with its number from 0 and its units.
+fn with_units(chambers: [usize; CHAMBERS]) -> impl Iterator<Item = (usize, u64)> {
+    dealt(chambers).into_iter().enumerate().filter(|&(_, own)| own != 0)
+}
 
 /// A set that a step allows.
-fn any_set(step: &Step, random: &mut Random) -> u64 {
-    let (must, may) = (step.lower.count_ones() as usize, step.upper.count_ones() as usize);
-    let size = random.between(must.max(step.least.into()), may.min(step.greatest.into()));
-    let set = step.lower | random.some(size - must, step.upper & !step.lower);
-    assert!(feasible(step, set));
+fn any_set(chambers: [usize; CHAMBERS], step: &ChamberStep, random: &mut Random) -> u64 {
+    let mut set = step.lower;
+    for (c, own) in with_units(chambers) {
+        let (must, may) = ((step.lower & own).count_ones() as usize, (step.upper & own).count_ones() as usize);
+        let size = random.between(must.max(step.least[c].into()), may.min(step.greatest[c].into()));
+        set |= random.some(size - must, step.upper & !step.lower & own);
+    }
+    assert!(feasible(chambers, step, set));
     set
 }
 
 fn any_plan(sheet: &Sheet, random: &mut Random) -> Vec<u64> {
-    sheet.steps.iter().map(|step| any_set(step, random)).collect()
+    sheet.steps.iter().map(|step| any_set(sheet.chambers, step, random)).collect()
+}
+
+/// The sets of as many units as this one in which a unit that need not be on is replaced by one of another chamber that may be, and which are not
+/// feasible.
+fn moved_sets(chambers: [usize; CHAMBERS], step: &ChamberStep, set: u64) -> Vec<u64> {
+    let mut moved = Vec::new();
+    for own in dealt(chambers) {
+        let (from, to) = (set & own & !step.lower, step.upper & !set & !own);
+        for (u, v) in (0..64).flat_map(|u| (0..64).map(move |v| (u, v))) {
+            let other = set & !(1 << u) | 1 << v;
+            if has(from, u) && has(to, v) && !feasible(chambers, step, other) {
+                moved.push(other);
+            }
+        }
+    }
+    moved
 }
 
 /// Ways to break one limit of a step, by name, where the step has such a limit.
-fn broken_sets(step: &Step, set: u64, units: usize, random: &mut Random) -> Vec<(&'static str, u64)> {
-    let (least, greatest) = (u32::from(step.least), u32::from(step.greatest));
-    let free = step.upper & !step.lower;
+fn broken_sets(sheet: &Sheet, i: usize, set: u64, random: &mut Random) -> Vec<(&'static str, u64)> {
+    let (units, chambers, step) = (sheet.units, sheet.chambers, &sheet.steps[i]);
     let mut broken = Vec::new();
     if step.lower != 0 {
         broken.push(("a unit that must be on is off", set & !random.some(1, step.lower)));
@@ -35,16 +58,24 @@ fn broken_sets(step: &Step, set: u64, units: usize, random: &mut Random) -> Vec<
     if step.upper != units_below(units) {
         broken.push(("a unit that may not be on is on", set | random.some(1, units_below(units) & !step.upper)));
     }
-    if step.lower.count_ones() < least {
-        let fewer = least - 1 - step.lower.count_ones();
-        broken.push(("too few are on", step.lower | random.some(fewer as usize, free)));
-    }
-    if step.upper.count_ones() > greatest {
-        let more = greatest + 1 - step.lower.count_ones();
-        broken.push(("too many are on", step.lower | random.some(more as usize, free)));
+    for (c, own) in with_units(chambers) {
+        let (least, greatest) = (u32::from(step.least[c]), u32::from(step.greatest[c]));
+        let (lower, upper) = (step.lower & own, step.upper & own);
+        if lower.count_ones() < least {
+            let fewer = least - 1 - lower.count_ones();
+            broken.push(("too few are on", set & !own | lower | random.some(fewer as usize, upper & !lower)));
+        }
+        if upper.count_ones() > greatest {
+            let more = greatest + 1 - lower.count_ones();
+            broken.push(("too many are on", set & !own | lower | random.some(more as usize, upper & !lower)));
+        }
     }
     if units < 64 {
         broken.push(("a unit that the sheet has not", set | random.some(1, !units_below(units))));
+    }
+    let moved = moved_sets(chambers, step, set);
+    if !moved.is_empty() {
+        broken.push(("one of another chamber in its place", random.pick(&moved)));
     }
     broken
 }
@@ -56,15 +87,16 @@ fn rebound(bytes: &mut [u8], replies: &Replies, bound: u32) -> Replies {
     replies.with_bound(bound)
 }
 
-#[test]
-fn verdicts() {
-    let mut judge = Judge::new(51);
-    let mut random = Random::new(51);
+fn compare(seed: u64, racks: Racks) -> Judge {
+    let mut judge = Judge::new(seed);
+    let mut random = Random::new(seed);
     for round in 0..300 {
         for family in Family::ALL {
             let most = if round % 20 == 0 { 256 } else { 12 };
             let (units, steps) = (random.between(1, if most == 256 { 8 } else { 64 }), random.below(most + 1));
-            let mut bytes = draw(family, units, steps, &mut random).scattered(0, &mut random);
+            let rack = racks(units, &mut random);
+            rack.count(&mut judge.tally);
+            let mut bytes = draw(family, rack, steps, &mut random).scattered(0, &mut random);
             let replies = Replies::new(&bytes);
             let sheet = replies.sheet.clone().unwrap();
             around_total(&mut judge, &mut bytes, &replies, replies.support());
@@ -77,13 +109,27 @@ fn verdicts() {
             judge.verdict(&bytes, &roomy, &words);
         }
     }
-    judge.tally.print("verdicts");
     judge.tally.require(&[("accepted", 6000), ("turned down", 4000)]);
     judge.tally.require_refusals([10], 5000);
     let ways =
         ["a unit that must be on is off", "a unit that may not be on is on", "too few are on", "too many are on"];
     judge.tally.require(&ways.map(|way| (way, 200)));
     judge.tally.require(&[("a unit that the sheet has not", 200)]);
+    judge
+}
+
+#[test]
+fn verdicts() {
+    let judge = compare(51, one_chamber);
+    judge.tally.print("verdicts");
+}
+
+#[test]
+fn verdicts_in_chambers() {
+    let judge = compare(52, some_chambers);
+    judge.tally.print("verdicts in chambers");
+    judge.tally.require(&[("one of another chamber in its place", 800)]);
+    Rack::require(&judge.tally, 400);
 }
 
 /// A feasible plan is accepted at a bound of its total and above, and turned down below.
@@ -103,7 +149,7 @@ fn broken(judge: &mut Judge, bytes: &[u8], expected: &Replies, plan: &[u64], ran
         return;
     }
     let i = random.below(plan.len());
-    for (way, set) in broken_sets(&sheet.steps[i], plan[i], sheet.units, random) {
+    for (way, set) in broken_sets(sheet, i, plan[i], random) {
         let mut other = plan.to_vec();
         other[i] = set;
         assert!(!expected.verdict(&other).unwrap().0, "{way}");

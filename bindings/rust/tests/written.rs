@@ -8,15 +8,14 @@ mod reference;
 use common::judge::{hex, Judge};
 use common::random::Random;
 use common::sheets::{draw, four_runs, Campaign, Family};
-use reference::reading::{check_steps, read};
+use reference::reading::{check_step, read};
 use reference::{units_below, Reply};
-use warm::{Error, Step, BYTES, STEPS};
+use warm::{ChamberStep, Error, Step, BYTES, STEPS};
 
 #[test]
 fn four_runs_by_hand() {
-    let Campaign { steps, .. } = four_runs();
     let mut output = [0xA5; 200];
-    assert_eq!(warm::write(3, 3, 0, &steps, &mut output), Ok(&warm::FOUR_RUNS[..]));
+    assert_eq!(warm::write(3, 3, 0, &four_runs().written_steps(), &mut output), Ok(&warm::FOUR_RUNS[..]));
     assert_eq!(output[..120], *include_bytes!("../../../examples/four_runs.sheet"));
     assert_eq!(output[120..], [0xA5; 80]);
 }
@@ -85,13 +84,18 @@ fn limits_by_hand() {
 
 /// Reading a written sheet gives what it was written from, or refusal 6 or 7 where a step is at fault.
 fn read_back(judge: &mut Judge, campaign: &Campaign, sheet: &[u8]) {
-    let Campaign { units, bound, start, steps } = campaign;
-    let expected = check_steps(*units, steps).map(|()| (*units, u32::from(*bound), *start, &steps[..]));
+    let (Campaign { bound, start, steps, .. }, units) = (campaign, campaign.units());
+    let chambers = [units, 0, 0, 0];
+    let checked = (1..).zip(steps).try_for_each(|(place, step)| check_step(step, place, units, chambers));
+    let expected = checked.map(|()| (units, u32::from(*bound), *start, chambers, &steps[..]));
     let by_reference = read(sheet);
-    let found = by_reference.as_ref().map(|said| (said.units, said.bound, said.start, &said.steps[..]));
+    let found = by_reference.as_ref().map(|said| (said.units, said.bound, said.start, said.chambers, &said.steps[..]));
     assert_eq!(found.map_err(|&refusal| refusal), expected, "the reference, for the sheet {}", hex(sheet));
-    let mut list = [Step::default(); STEPS];
-    let found = warm::steps(sheet, &mut list).map(|said| (said.units as usize, said.bound, said.start, said.steps));
+    let mut list = [ChamberStep::default(); STEPS];
+    let found = warm::steps(sheet, &mut list).map(|said| {
+        let chambers = said.chambers.map(|units| units as usize);
+        (said.units as usize, said.bound, said.start, chambers, said.steps)
+    });
     assert_eq!(found.map_err(Error::numbers), expected, "for the sheet {}", hex(sheet));
     match expected {
         Ok(_) => judge.tally.add("read back", 1),
@@ -112,14 +116,14 @@ fn any_step(random: &mut Random) -> Step {
 }
 
 /// Steps of a family, which the readers take, or steps of any numbers, or one of these among the former.
-fn draw_steps(units: usize, count: usize, random: &mut Random) -> Vec<Step> {
+fn draw_steps(units: usize, count: usize, random: &mut Random) -> Vec<ChamberStep> {
     if random.one_in(3) {
-        return (0..count).map(|_| any_step(random)).collect();
+        return (0..count).map(|_| any_step(random).into()).collect();
     }
     let family = random.pick(&Family::ALL);
     let mut steps = draw(family, units.clamp(1, 64), count, random).steps;
     if count > 0 && random.one_in(2) {
-        steps[random.below(count)] = any_step(random);
+        steps[random.below(count)] = any_step(random).into();
     }
     steps
 }
@@ -134,7 +138,8 @@ fn edges() {
         for start in [0, 1, all, all >> 1, all & !(all >> 1), above, all | above, top, u64::MAX] {
             for count in [0, 1, 2, 255, 256, 257, 300] {
                 let bound = random.pick(&[0, 1, 255, 256, u16::MAX]);
-                let campaign = Campaign { units, bound, start, steps: draw_steps(units, count, &mut random) };
+                let steps = draw_steps(units, count, &mut random);
+                let campaign = Campaign { rack: units.into(), bound, start, steps };
                 let length = 24 * (count + 1);
                 for places in [0, length - 24, length - 1, length, length + 1, length + 24, BYTES] {
                     compare(&mut judge, &campaign, places);
@@ -167,7 +172,8 @@ fn draw_campaign(random: &mut Random) -> Campaign {
         1 => random.between(13, 300),
         _ => random.below(13),
     };
-    Campaign { units, bound: random.word() as u16, start, steps: draw_steps(units, count, random) }
+    let bound = random.word() as u16;
+    Campaign { rack: units.into(), bound, start, steps: draw_steps(units, count, random) }
 }
 
 #[test]

@@ -1,26 +1,29 @@
 // Lists all plans of thousands of small sheets, one by one, and holds the library's plans, verdicts and charts to what the listing finds.
-// It writes how many were tried and how many of these were right.
+// It writes, for each edition of the sheet, how many were tried and how many of these were right.
+mod bytes;
 mod charts;
+mod feasible;
 mod handed;
+mod limits;
 mod listed;
 mod plans;
 mod small;
 mod tallies;
 mod verdicts;
 
+use bytes::bytes_of;
+use bytes::put_sheet;
 use listed::list;
 use small::Small;
-use small::put_sheet;
 use small::sets_of;
 use small::units_of;
 use tallies::Tallies;
 use trials::layout::SPACE;
 use trials::layout::Space;
-use trials::layout::length_of;
 use trials::tally::Tally;
 
-// How many times the limits of the steps are drawn. Each time is tried with every start set, and with each of these with up to 4 bounds.
-const CASES: usize = 3480;
+// How many times the limits of the steps are drawn for each edition. Each time is tried with every start set, and with each of these with up to 4 bounds.
+const CASES: usize = 1740;
 
 // Tries a sheet: the plan and the chart, and the verdicts where it is not large, for a large one has too many plans.
 fn try_sheet(sheet: Small, bytes: &[u8], fewest: usize, bound: usize) -> Tallies {
@@ -58,7 +61,7 @@ fn try_sheet(sheet: Small, bytes: &[u8], fewest: usize, bound: usize) -> Tallies
 // Tries a sheet that lies in the first bytes.
 fn try_bytes(sheet: Small, bytes: &Space, fewest: usize, bound: usize) -> Tallies {
     let whole: &[u8] = bytes;
-    let length = length_of(sheet.steps % 7);
+    let length = bytes_of(sheet);
     try_sheet(sheet, &whole[0..length], fewest, bound)
 }
 
@@ -84,30 +87,34 @@ fn try_bounds(sheet: Small) -> Tallies {
     tallies
 }
 
-// Tries a case with every start set.
-fn try_case(case: usize) -> Tallies {
+// Tries a case in that edition with every start set.
+fn try_case(edition: usize, case: usize) -> Tallies {
     let sets = sets_of(units_of(case));
     let mut tallies = Tallies::of(0);
     let mut start = 0;
     while start < sets {
-        tallies = tallies.plus(try_bounds(Small::of(case, start as u64)));
+        tallies = tallies.plus(try_bounds(Small::of(edition, case, start as u64)));
         start += 1;
     }
     tallies
 }
 
-// Tries all cases.
-fn try_cases() -> Tallies {
+// Tries all cases in that edition.
+fn try_cases(edition: usize) -> Tallies {
     let mut tallies = Tallies::of(0);
     let mut case = 0;
     while case < CASES {
-        tallies = tallies.plus(try_case(case));
+        tallies = tallies.plus(try_case(edition, case));
         case += 1;
     }
     tallies
 }
 
-// Tries everything, and writes how it came out.
+// Tries both editions, and writes how they came out.
 fn main() {
-    try_cases().write();
+    let first = try_cases(1);
+    let second = try_cases(2);
+    first.write(b"edition 1");
+    second.write(b"edition 2");
+    first.plus(second).write_end();
 }

@@ -1,10 +1,10 @@
 // The plans of a small sheet, each under a number: to the base of 2^units, its digits are the sets of the steps, the first step's digit last.
 //
 // Whether a plan is feasible and how many switches it has is worked out set by set, and by nothing of the library.
+use super::feasible::is_in;
 use super::small::Small;
 use super::small::all_units;
 use super::small::size;
-use trials::layout::Limits;
 ghost use Prim.Native.Nat.{_≤_, _<_};
 
 // One set per step, and room for more.
@@ -48,23 +48,14 @@ pub fn plan_at(sheet: Small, p: usize) -> Plan {
     plan
 }
 
-// Whether a set meets the limits of a step.
-fn is_within(limits: Limits, set: u64) -> bool {
-    let on = size(set);
-    limits.lower & !set == 0
-        && set & !limits.upper == 0
-        && limits.least as usize <= on
-        && on <= limits.greatest as usize
-}
-
 // The last step, from 1, whose set does not meet its limits, or 0 where each set does.
 pub fn last_fault(sheet: Small, plan: &Plan) -> usize
     ensures { λ r. ⌜ r ≤ 6 ⌝ }
 {
-    let limits = sheet.limits;
+    let feasible = sheet.feasible;
     let mut k = sheet.steps % 7;
     while 0 < k {
-        if !is_within(limits[k - 1], plan[k - 1]) {
+        if !is_in(feasible[k - 1], plan[k - 1]) {
             return k;
         }
         k -= 1;

@@ -1,33 +1,29 @@
-// The small sheets: 1 to 4 units and at most 6 steps. The limits of their steps are drawn from the number of the case.
+// The small sheets, of either edition: 1 to 4 units and at most 6 steps. The chambers and the limits of their steps are drawn from the number of the case.
+use super::feasible::all_feasible;
+use super::limits::all_limits;
 use trials::draws;
-use trials::layout::Head;
-use trials::layout::Limits;
-use trials::layout::Space;
-use trials::layout::put_head;
-use trials::layout::put_limits;
-use trials::layout::put_link;
+use trials::layout::ChamberLimits;
 ghost use Prim.Native.Nat.{_≤_, _<_};
 
-// A small sheet but for its bound, and whether its case is large.
+// The units of each chamber.
+pub type Chambers = [u64; 4];
+
+// A small sheet but for its bound: the edition, the case and whether it is large, its numbers, and the sets that are feasible in each step.
 pub struct Small {
+    pub edition: usize,
+    pub case: usize,
     pub large: bool,
     pub units: usize,
     pub steps: usize,
     pub start: u64,
-    pub limits: [Limits; 6],
+    pub feasible: [u64; 6],
 }
 
-// What the numbers of a small sheet are drawn for.
-const BANNED: usize = 10;
-
-const LOWER: usize = 12;
-
-const LEAST: usize = 14;
-
-const GREATEST: usize = 16;
+// What the chambers are drawn for.
+const DEALT: usize = 14;
 
 // The cases before this one are of every size, and those from it on are large: 3 or 4 units, and 4 to 6 steps.
-const LARGE: usize = 480;
+const LARGE: usize = 240;
 
 // The number of units, each as often as the others.
 pub fn units_of(case: usize) -> usize
@@ -56,12 +52,13 @@ fn steps_of(case: usize) -> usize
     case / 4 % 5
 }
 
-// How many sets of the units there are.
+// How many sets of that many units there are.
 pub fn sets_of(units: usize) -> usize
-    ensures { λ r. ⌜ 1 < r ⌝ }
+    ensures { λ r. ⌜ 0 < r ⌝ }
     ensures { λ r. ⌜ r ≤ 16 ⌝ }
 {
     match units {
+        0 => 1,
         1 => 2,
         2 => 4,
         3 => 8,
@@ -69,7 +66,7 @@ pub fn sets_of(units: usize) -> usize
     }
 }
 
-// The set of all units.
+// The set of that many units, the first ones.
 pub fn all_units(units: usize) -> u64 {
     (sets_of(units) - 1) as u64
 }
@@ -89,100 +86,61 @@ pub fn size(set: u64) -> usize
     count
 }
 
-// The units that a step bans: none about every second time, else some of them.
-fn banned(units: u64, case: usize, k: usize) -> u64 {
-    if draws::below(2, case, k, BANNED) == 0 {
-        return 0;
-    }
-    units & draws::set(case, k, BANNED) & draws::set(case, k, BANNED + 1)
-}
-
-// The larger of two sizes.
-fn larger(a: usize, b: usize) -> usize
-    requires { ⌜ a ≤ 4 ⌝ }
-    requires { ⌜ b ≤ 4 ⌝ }
-    ensures { λ r. ⌜ r ≤ 4 ⌝ }
+// The chambers of edition 2: the units are dealt out in order, and where the first three chambers end is drawn, the second's end first.
+fn dealt(units: usize, case: usize) -> Chambers
+    requires { ⌜ units ≤ 4 ⌝ }
 {
-    if a < b { b } else { a }
-}
-
-// The limits of step k: some set is within them.
-fn limits_of(units: u64, case: usize, k: usize) -> Limits {
-    let upper = units & !banned(units, case, k);
-    let lower = upper & draws::set(case, k, LOWER) & draws::set(case, k, LOWER + 1);
-    let least = draws::between(0, size(upper), case, k, LEAST);
-    let low = larger(least, size(lower));
-    let greatest = low + draws::below(5 - low, case, k, GREATEST);
-    Limits {
-        lower,
-        upper,
-        least: least as u8,
-        greatest: greatest as u8,
-    }
-}
-
-// The limits of all steps.
-fn all_limits(case: usize) -> [Limits; 6] {
-    let units = all_units(units_of(case));
+    let middle = draws::below(units + 1, case, 0, DEALT);
+    let first = draws::below(middle + 1, case, 0, DEALT + 1);
+    let last = middle + draws::below(units - middle + 1, case, 0, DEALT + 2);
     [
-        limits_of(units, case, 1),
-        limits_of(units, case, 2),
-        limits_of(units, case, 3),
-        limits_of(units, case, 4),
-        limits_of(units, case, 5),
-        limits_of(units, case, 6),
+        all_units(first),
+        all_units(middle) & !all_units(first),
+        all_units(last) & !all_units(middle),
+        all_units(units) & !all_units(last),
     ]
 }
 
+// The chambers of a case in that edition. In edition 1 all units are in the first.
+pub fn chambers_of(edition: usize, case: usize) -> Chambers {
+    let units = units_of(case);
+    if edition == 1 {
+        return [all_units(units), 0, 0, 0];
+    }
+    dealt(units, case)
+}
+
+// The limits of all steps of a case in that edition.
+pub fn limits_in(edition: usize, case: usize) -> [ChamberLimits; 6] {
+    all_limits(all_units(units_of(case)), chambers_of(edition, case), case)
+}
+
 impl Small {
-    // The sheet of a case, with that start set.
-    pub fn of(case: usize, start: u64) -> Small {
-        let limits = all_limits(case);
+    // The sheet of a case in that edition, with that start set.
+    pub fn of(edition: usize, case: usize, start: u64) -> Small {
+        let feasible = all_feasible(chambers_of(edition, case), limits_in(edition, case));
         Small {
+            edition,
+            case,
             large: LARGE <= case,
             units: units_of(case),
             steps: steps_of(case),
             start,
-            limits,
+            feasible,
         }
     }
 
-    // The sheet with a unit more, which none of its steps allows.
+    // The sheet with a unit more, which is in no chamber and which none of its steps allows.
     pub fn with_unit(self) -> Small {
-        let limits = self.limits;
+        let feasible = self.feasible;
         Small {
+            edition: self.edition,
+            case: self.case,
             large: self.large,
             units: self.units % 4 + 1,
             steps: self.steps,
             start: self.start,
-            limits,
+            feasible,
         }
     }
-}
-
-// Puts the steps, in the order of the records. The remainder is the number itself, here and where it comes again: it shows the bound.
-fn put_steps(sheet: Small, bytes: &mut Space) {
-    let limits = sheet.limits;
-    let steps = sheet.steps % 7;
-    let mut k = 0;
-    while k < steps {
-        put_limits(bytes, k + 1, limits[k]);
-        put_link(bytes, k, k + 1);
-        k += 1;
-    }
-    put_link(bytes, steps, 0);
-}
-
-// Puts the whole sheet, with that bound.
-pub fn put_sheet(sheet: Small, bound: usize, bytes: &mut Space) {
-    put_head(
-        bytes,
-        Head {
-            units: sheet.units % 5,
-            records: sheet.steps % 7,
-            bound: bound % 65536,
-            start: sheet.start,
-        },
-    );
-    put_steps(sheet, bytes);
 }

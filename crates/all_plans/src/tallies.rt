@@ -63,9 +63,10 @@ impl Tallies {
         handed.plus(judged).plus(charted)
     }
 
-    // Writes a line for each kind and one for all.
-    pub fn write(self) {
-        let all = self.all();
+    // Writes a title, a line for each kind and one for all.
+    pub fn write(self, title: &[u8]) {
+        io::write_all(STDOUT_FILENO, title);
+        io::write_all(STDOUT_FILENO, b"\n");
         write_count(b"small sheets", self.plans.plus(self.plans_refused).made);
         write_count(b"feasible plans listed", self.listed);
         self.plans.write(b"plans handed out");
@@ -77,7 +78,13 @@ impl Tallies {
         self.charts.write(b"charts handed out");
         self.charts_refused.write(b"charts refused by 9");
         self.cells.write(b"chart cells");
-        all.write(b"in all");
+        self.all().write(b"in all");
+    }
+
+    // Writes a line for all and one for those that are not right.
+    pub fn write_end(self) {
+        let all = self.all();
+        all.write(b"both editions");
         write_count(
             b"differences",
             std::num::wrapping_sub_usize(all.made, all.right),

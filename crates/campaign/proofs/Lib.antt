@@ -1,2 +1,4 @@
--- `Decoded` has what is known of the words and of the plan of a sheet that was read.
+-- `Decoded` has what is decoded of a chamber of a sheet, `Planned` the loop that plans one chamber after the other, and `Checking` the loop that checks a plan.
+pub mod Checking
 pub mod Decoded
+pub mod Planned

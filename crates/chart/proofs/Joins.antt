@@ -1,13 +1,13 @@
--- Words joined to the places of an output, from the last place to the first: one place more, and a block of places more. For callers, `joined-words`: where
--- the places are empty, the words are written there as they are.
+-- Words joined to the places of an output, from the last place to the first: one place more, and a block of places more. For callers, `joined-words`: the
+-- words and what the places held are then joined as lists.
 use mathlib.Core.Path.{_≡_, refl, sym, ap, ap₂, _∙_}
 use mathlib.Core.List.{List, [], _∷_, _++_}
 use Prim.Native.Nat.{ℕ, zero, suc, _+_, _-_, _≤_, _<_}
 use native.Mathlib.Omega.{arith}
-use lib.ListN.{length, getD, take, set, replicate, length-replicate, getD-replicate}
-use lib.Seq.{sets, length-sets, sets-eq, set-comm, getD-set-other, getD-take, take-at}
+use lib.ListN.{length, getD, take, drop, set}
+use lib.Seq.{sets, length-sets, set-comm, getD-set-other, drop-cons}
 use Rattle.units.specs.Sets.{union}
-use Rattle.units.proofs.Sets.{union-empty-right}
+use Rattle.plans.specs.Plans.{joined}
 use Rattle.chart.specs.Joining.{joining}
 
 -- ---- runs of stores
@@ -108,35 +108,27 @@ module _ {word : ℕ → ℕ} {n i : ℕ} {out l : List ℕ} (g : Joined word n 
 
 -- ---- for callers
 
--- words that are joined to empty places are there as they are
-joining-empty : (word : ℕ → ℕ) (out words : List ℕ) (i : ℕ) → ((j : ℕ) → j < length words → getD out (i + j) 0 ≡ 0)
-    → ((j : ℕ) → j < length words → word (i + j) ≡ getD words j 0) → joining word out i (length words) ≡ words
-unfolding joining
-joining-empty word out [] i none same = refl
-joining-empty word out (w ∷ words) i none same =
+-- words joined to the places from i on
+joining-from : (word : ℕ → ℕ) (words out : List ℕ) (i : ℕ) → i + length words ≤ length out → ((j : ℕ) → j < length words → word (i + j) ≡ getD words j 0)
+    → joining word out i (length words) ≡ joined words (take (length words) (drop i out))
+unfolding joining joined
+joining-from word [] out i room same = refl
+joining-from word (w ∷ words) out i room same =
     let here : i + 0 ≡ i = omega arith in
-    ap₂ _∷_ (ap₂ union (rw here at (same 0 (omega arith))) (rw here at (none 0 (omega arith))) ∙ union-empty-right w)
-    (joining-empty word out words (suc i) (λ j h. rw (there j) at (none (suc j) (omega arith))) (λ j h. rw (there j) at (same (suc j) (omega arith))))
+    ap₂ _∷_ (ap (λ (x : ℕ). union x (getD out i 0)) (rw here at (same 0 (omega arith))))
+    (joining-from word words out (suc i) (omega arith) (λ j h. rw (there j) at (same (suc j) (omega arith))))
+    ∙ ap (λ l. joined (w ∷ words) (take (suc (length words)) l)) (sym (drop-cons out i 0 (omega arith)))
   where
     there : (j : ℕ) → i + suc j ≡ suc i + j
     there j = omega arith
 
--- where the first n places are empty, joining n words to them is writing them
-pub joined-words : (word : ℕ → ℕ) (out words : List ℕ) (n : ℕ) → take n out ≡ replicate n 0 → length words ≡ n
-    → ((i : ℕ) → i < n → word i ≡ getD words i 0) → sets out 0 (joining word out 0 n) ≡ sets out 0 words
-joined-words word out words n none long same =
-    ap (sets out 0)
-    (ap (joining word out 0) (sym long)
-    ∙ joining-empty word out words 0 (λ j h. rw (first j) (empty j (omega arith))) (λ j h. rw (first j) (same j (omega arith))))
+-- n words joined to the first n places, as lists
+pub joined-words : (word : ℕ → ℕ) (words out : List ℕ) (n : ℕ) → length words ≡ n → n ≤ length out → ((i : ℕ) → i < n → word i ≡ getD words i 0)
+    → joining word out 0 n ≡ joined words (take n out)
+joined-words word words out n long room same =
+    ap (joining word out 0) (sym long)
+    ∙ joining-from word words out 0 (omega arith) (λ j h. rw (first j) (same j (omega arith)))
+    ∙ ap (λ (k : ℕ). joined words (take k out)) long
   where
     first : (j : ℕ) → 0 + j ≡ j
     first j = omega arith
-
-    empty : (j : ℕ) → j < n → getD out j 0 ≡ 0
-    empty j h = sym (getD-take n out j 0 h) ∙ ap (λ (l : List ℕ). getD l j 0) none ∙ getD-replicate n j 0 0 h
-
--- and the first n places are empty once they are cleared
-pub cleared-empty : (out : List ℕ) (n : ℕ) → n ≤ length out → take n (sets out 0 (replicate n 0)) ≡ replicate n 0
-cleared-empty out n h =
-    let long = length-replicate {A = ℕ} n 0 in
-    ap (take n) (sets-eq (replicate n 0) out 0 (omega (arith, long))) ∙ take-at (replicate n 0) _ n long

@@ -12,9 +12,7 @@ ghost use Rattle.tables.specs.Tables.{onBySlack, offBySlack};
 ghost use Rattle.chart.specs.Joining.{joining};
 
 pub mod ample;
-pub mod clear;
 pub mod scarce;
-pub mod whole;
 
 // Joins the words of the chart to what the first places of the outputs hold, and leaves the others as they were: in `on` the units that can be on in each
 // step, in `off` those of us that can be off. `plan` is the plan that is handed out, and the bound leaves `slack` switches to spare.

@@ -2,45 +2,79 @@
 -- link leads out of the sheet or back, both get the same refusal, and else their steps differ in tags alone. The start set plays a part in one cause only: where
 -- that cause holds of both sheets or of neither, sheets that agree up to the start set are read the same but for tags and the start set (`same-but-start`).
 use mathlib.Core.Path.{_≡_, refl, sym, ap, ap₂, _∙_}
+use mathlib.Core.Bool.{Bool, true, false, cond}
 use mathlib.Core.List.{List, [], _∷_, _++_, map}
 use Prim.Native.Nat.{ℕ, zero, suc, _+_, _≤_, _<_, min}
-use native.Mathlib.Nat.{add-zero, zero-add}
+use native.Mathlib.Nat.{add-assoc, add-zero, zero-add}
 use native.Mathlib.Decide.{ℕ-discrete}
 use native.Mathlib.Omega.{arith}
+use lib.Dec.{eqb}
 use lib.ListN.{length-take, take}
 use lib.Seq.{ext-getD, getD-take}
 use borrow.Author.Tests.{ltb-false}
 use Rattle.units.specs.Sets.{hasUnitFrom}
-use Rattle.format.specs.declared.Step.{Step}
+use Rattle.chambers.specs.Chambers.{Chamber, chambersOf}
+use Rattle.format.specs.declared.ChamberSizes.{ChamberSizes}
+use Rattle.format.specs.declared.ChamberStep.{ChamberStep}
 use Rattle.format.specs.Agreement.{Visited, begun, onward, AgreeTo, Agree, untagged, readUntagged}
 use Rattle.format.specs.Answer.{Answer, Given, unless}
 use Rattle.format.specs.Chain.{following, chainOf, linkCauses}
-use Rattle.format.specs.Format.{editionAt, unitsAt, recordsAt, firstAt, boundAt, reservedAt, startAt, upperAt, leastAt, greatestAt, nextAt, tagAt, recordOffset, lettersOf, unitsOf, recordsOf, boundOf, startOf, nextOf, stepOf}
-use Rattle.format.specs.Numbers.{byteAt, u64At}
+use Rattle.format.specs.Format.{firstEdition, editionAt, unitsAt, recordsAt, firstAt, boundAt, chambersAt, startAt, upperAt, leastAt, greatestAt, nextAt, reservedAt, tagAt, recordOffset, lettersOf, isFirst, unitsOf, recordsOf, boundOf, startOf, oneSize, sizes, sizesList, chambersIn, numbersAt, stepIn, nextOf, stepOf}
+use Rattle.format.specs.Numbers.{byteAt, u16At, u64At}
 use Rattle.format.specs.Reading.{formCauses, headerCauses, stepCauses, stepsCauses, recordsOn, stepsOf, openCauses, readCauses, Campaign, campaignOf}
 use Rattle.format.proofs.Answers.{past-first}
 use Rattle.format.proofs.Chains.{follow-ends, follow-on}
 use Rattle.format.proofs.Numbers.{same-u16, same-u32, same-u64}
 use Rattle.format.proofs.Readings.{open-staged, read-staged}
-use Rattle.format.proofs.Records.{next-first, next-after}
+use Rattle.format.proofs.Records.{next-before-tag, next-first, next-after}
 
 -- ---- a record whose bytes before the tag are equal
 
-module _ (s t : List ℕ) (j : ℕ) (same : (i : ℕ) → i < tagAt → byteAt s (recordOffset j + i) ≡ byteAt t (recordOffset j + i)) where
-  same-step : untagged (stepOf s j) ≡ untagged (stepOf t j)
-  unfolding stepOf
-  same-step =
-      let at = recordOffset j in
+-- from a place on, the bytes before the tag are equal
+abbrev SameAt : Bool → List ℕ → List ℕ → ℕ → Type 0
+SameAt first s t at = (i : ℕ) → i < tagAt first → byteAt s (at + i) ≡ byteAt t (at + i)
+
+module _ (s t : List ℕ) (at : ℕ) where
+  -- so are the numbers of the chambers, where they lie before it
+  same-numbers : (first : Bool) → SameAt first s t at → (i : ℕ) → i + cond first 1 4 ≤ tagAt first → numbersAt first s (at + i) ≡ numbersAt first t (at + i)
+  same-numbers true same i h = ap (λ (x : ℕ). x ∷ 0 ∷ 0 ∷ 0 ∷ []) (same i (omega arith))
+  same-numbers false same i h = λ k. same i (omega arith) k ∷ further 1 (omega arith) k ∷ further 2 (omega arith) k ∷ further 3 (omega arith) k ∷ []
+    where
+      further : (j : ℕ) → i + j < tagAt false → byteAt s (at + i + j) ≡ byteAt t (at + i + j)
+      further j l = ap (byteAt s) (add-assoc at i j) ∙ same (i + j) l ∙ ap (byteAt t) (sym (add-assoc at i j))
+
+  -- and the bytes that are zero
+  same-reserved : (first : Bool) → SameAt first s t at → cond first 0 (u16At s (at + reservedAt)) ≡ cond first 0 (u16At t (at + reservedAt))
+  same-reserved true same = refl
+  same-reserved false same = same-u16 s t at at (tagAt false) same reservedAt (omega arith)
+
+  -- so the step is the same but for its tag
+  same-in : (first : Bool) → SameAt first s t at → untagged (stepIn first s at) ≡ untagged (stepIn first t at)
+  unfolding stepIn
+  same-in first same =
+      let (sets, (least, greatest)) = room first in
       let lower : u64At s at ≡ u64At t at =
-      ap (u64At s) (sym (add-zero at)) ∙ same-u64 s t at at tagAt same 0 (omega arith) ∙ ap (u64At t) (add-zero at) in
-      λ i. record { lower = lower i; upper = same-u64 s t at at tagAt same upperAt (omega arith) i; least = same leastAt (omega arith) i; greatest = same greatestAt (omega arith) i; tag = 0 }
+      ap (u64At s) (sym (add-zero at)) ∙ same-u64 s t at at (tagAt first) same 0 (omega arith) ∙ ap (u64At t) (add-zero at) in
+      λ i. record {
+        lower = lower i;
+        upper = same-u64 s t at at (tagAt first) same upperAt (omega arith) i;
+        least = same-numbers first same leastAt least i;
+        greatest = same-numbers first same (greatestAt first) greatest i;
+        tag = 0;
+        reserved = same-reserved first same i;
+      }
+    where
+      -- all fields lie before the tag
+      room : (first : Bool) → (16 ≤ tagAt first) × ((leastAt + cond first 1 4 ≤ tagAt first) × (greatestAt first + cond first 1 4 ≤ tagAt first))
+      room true = (omega arith, (omega arith, omega arith))
+      room false = (omega arith, (omega arith, omega arith))
 
 -- ---- tags play no part in the causes
 
-untagged-causes : (d i : ℕ) (xs : List Step) → stepsCauses d i (map untagged xs) ≡ stepsCauses d i xs
+untagged-causes : (cs : List Chamber) (d i : ℕ) (xs : List ChamberStep) → stepsCauses cs d i (map untagged xs) ≡ stepsCauses cs d i xs
 unfolding stepsCauses
-untagged-causes d i [] = refl
-untagged-causes d i (x ∷ xs) = ap (λ cs. stepCauses d i x ++ cs) (untagged-causes d (i + 1) xs)
+untagged-causes cs d i [] = refl
+untagged-causes cs d i (x ∷ xs) = ap (λ rest. stepCauses cs d i x ++ rest) (untagged-causes cs d (i + 1) xs)
 
 -- ---- agreement
 
@@ -50,9 +84,9 @@ agree-itself k s = record { lengths = refl; headers = λ i h. refl; records = λ
 
 -- a sheet's campaign without tags, with `start` in the place of its start set
 abbrev pub campaignWith : ℕ → List ℕ → Campaign
-campaignWith start s = record { units = unitsOf s; bound = boundOf s; start = start; steps = map untagged (stepsOf s) }
+campaignWith start s = record { units = unitsOf s; bound = boundOf s; start = start; chambers = sizesList (sizes s); steps = map untagged (stepsOf s) }
 
--- one refusal of 1 to 7, or that campaign
+-- one refusal of the reader, or that campaign
 abbrev pub readWith : ℕ → List ℕ → Answer Campaign
 readWith start s = unless (readCauses s) (Given (campaignWith start s))
 
@@ -67,11 +101,25 @@ module _ {k : ℕ} (enough : startAt ≤ k) (s t : List ℕ) (g : AgreeTo k s t)
       ext-getD 0 (take 4 s) (take 4 t) (length-take 4 s ∙ ap (min 4) (g .lengths) ∙ sym (length-take 4 t))
       (λ i h. getD-take 4 s i 0 (omega (arith, length-take 4 s)) ∙ g .headers i (omega (arith, length-take 4 s)) ∙ sym (getD-take 4 t i 0 (omega (arith, length-take 4 s))))
 
+  same-edition : isFirst s ≡ isFirst t
+  same-edition = ap (λ (e : ℕ). eqb e firstEdition) (g .headers editionAt (omega arith))
+
   same-units : unitsOf s ≡ unitsOf t
   same-units = g .headers unitsAt (omega arith)
 
   same-records : recordsOf s ≡ recordsOf t
   same-records = same-u16 s t 0 0 k heads recordsAt (omega arith)
+
+  same-sizes : sizes s ≡ sizes t
+  unfolding sizes
+  same-sizes =
+      λ i. cond (same-edition i) (oneSize (same-units i))
+      (record {
+        first = g .headers chambersAt (omega arith) i;
+        second = g .headers (chambersAt + 1) (omega arith) i;
+        third = g .headers (chambersAt + 2) (omega arith) i;
+        fourth = g .headers (chambersAt + 3) (omega arith) i;
+      })
 
   same-bound : boundOf s ≡ boundOf t
   same-bound = same-u16 s t 0 0 k heads boundAt (omega arith)
@@ -79,7 +127,7 @@ module _ {k : ℕ} (enough : startAt ≤ k) (s t : List ℕ) (g : AgreeTo k s t)
   -- where both start sets have a unit from d up, or neither has
   same-form : hasUnitFrom (startOf s) (unitsOf s) ≡ hasUnitFrom (startOf t) (unitsOf t) → formCauses s ++ headerCauses s ≡ formCauses t ++ headerCauses t
   same-form own =
-      rw (own, g .lengths, same-letters, g .headers editionAt (omega arith), same-units, same-records, same-u32 s t 0 0 k heads reservedAt (omega arith))
+      rw (own, g .lengths, same-letters, g .headers editionAt (omega arith), same-sizes, same-units, same-records, same-u32 s t 0 0 k heads chambersAt (omega arith))
 
   -- a record that the walk visits names the same next one in both
   same-next : {j : ℕ} → Visited s j → nextOf s j ≡ nextOf t j
@@ -87,7 +135,18 @@ module _ {k : ℕ} (enough : startAt ≤ k) (s t : List ℕ) (g : AgreeTo k s t)
     where
       go : Dec (j ≡ 0) → nextOf s j ≡ nextOf t j
       go (yes e) = next-first s j e ∙ same-u16 s t 0 0 k heads firstAt (omega arith) ∙ sym (next-first t j e)
-      go (no n) = next-after s j n ∙ same-u16 s t (recordOffset j) (recordOffset j) tagAt (g .records j (omega arith) v) nextAt (omega arith) ∙ sym (next-after t j n)
+      go (no n) =
+          let first = isFirst s in
+          next-after s j n
+          ∙ same-u16 s t (recordOffset first j) (recordOffset first j) (tagAt first) (g .records j (omega arith) v) (nextAt first) (next-before-tag first)
+          ∙ ap (λ (b : Bool). u16At t (recordOffset b j + nextAt b)) same-edition
+          ∙ sym (next-after t j n)
+
+  -- and holds the same step but for its tag
+  same-step : {j : ℕ} → 0 < j → Visited s j → untagged (stepOf s j) ≡ untagged (stepOf t j)
+  unfolding stepOf
+  same-step {j} some v =
+      same-in s t (recordOffset (isFirst s) j) (isFirst s) (g .records j some v) ∙ ap (λ (b : Bool). untagged (stepIn b t (recordOffset b j))) same-edition
 
   -- the steps of some records are the same but for tags
   abbrev SameSteps : List ℕ → Type 0
@@ -123,7 +182,7 @@ module _ {k : ℕ} (enough : startAt ≤ k) (s t : List ℕ) (g : AgreeTo k s t)
           ap (judged ofS) (follow-on k s holder n)
           ∙ past-first _ _ _ _ _ (λ in-range. past-first _ _ _ _ _ (λ new.
           let w = onward v (omega (arith, ltb-false r next in-range)) in
-          ih w (λ js e. h (next ∷ js) (ap₂ (λ x xs. x ∷ xs) (same-step s t next (g .records next (omega arith) w)) e))))
+          ih w (λ js e. h (next ∷ js) (ap₂ (λ x xs. x ∷ xs) (same-step (omega arith) w) e))))
           ∙ ap (λ (m : ℕ). judged ofT (m ∷ following k t m)) (same-next v)
           ∙ sym (ap (judged ofT) (follow-on k t holder (λ e. n (same-next v ∙ e))))
 
@@ -133,16 +192,17 @@ module _ {k : ℕ} (enough : startAt ≤ k) (s t : List ℕ) (g : AgreeTo k s t)
   same-but-start own start =
       staged s
       ∙ ap₂ unless (same-form own)
-      (same-links (recordsOf s) (suc (recordsOf s)) [] 0 (along s) (along t) refl begun (λ js e i. said (same-units i) (same-bound i) (e i))
+      (same-links (recordsOf s) (suc (recordsOf s)) [] 0 (along s) (along t) refl begun (λ js e i. said (same-sizes i) (same-units i) (same-bound i) (e i))
       ∙ ap (λ (r : ℕ). linked r t) same-records)
       ∙ sym (staged t)
     where
-      -- by the units, the bound and the steps without tags, if the chain has no fault
-      said : ℕ → ℕ → List Step → Answer Campaign
-      said d bound xs = unless (stepsCauses d 1 xs) (Given (record { units = d; bound = bound; start = start; steps = xs }))
+      -- by the chambers, the units, the bound and the steps without tags, if the chain has no fault
+      said : ChamberSizes → ℕ → ℕ → List ChamberStep → Answer Campaign
+      said z d bound xs =
+          unless (stepsCauses (chambersOf (sizesList z)) d 1 xs) (Given (record { units = d; bound = bound; start = start; chambers = sizesList z; steps = xs }))
 
       along : List ℕ → List ℕ → Answer Campaign
-      along s js = said (unitsOf s) (boundOf s) (map untagged (map (stepOf s) js))
+      along s js = said (sizes s) (unitsOf s) (boundOf s) (map untagged (map (stepOf s) js))
 
       linked : ℕ → List ℕ → Answer Campaign
       linked r s = unless (linkCauses r [] 0 (following (suc r) s 0)) (along s (following (suc r) s 0))
@@ -150,7 +210,7 @@ module _ {k : ℕ} (enough : startAt ≤ k) (s t : List ℕ) (g : AgreeTo k s t)
       staged : (s : List ℕ) → readWith start s ≡ unless (formCauses s ++ headerCauses s) (linked (recordsOf s) s)
       staged s =
           read-staged s (Given (campaignWith start s))
-          ∙ ap (λ cs. unless (openCauses s) (unless cs (Given (campaignWith start s)))) (sym (untagged-causes (unitsOf s) 1 (stepsOf s)))
+          ∙ ap (λ cs. unless (openCauses s) (unless cs (Given (campaignWith start s)))) (sym (untagged-causes (chambersIn s) (unitsOf s) 1 (stepsOf s)))
           ∙ open-staged s (along s (recordsOn s))
 
 -- and where the start sets are the same, it says the same but for tags

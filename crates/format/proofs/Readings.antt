@@ -1,6 +1,7 @@
 -- Laws on what the reader reads: a header that was given is sound, the records of a chain without a fault lie within the sheet, and the reader's
 -- stages decide one after the other.
 use mathlib.Core.Path.{_≡_, refl, sym, ap, ap₂, _∙_, subst}
+use mathlib.Core.Logic.{inl, inr}
 use mathlib.Core.Bool.{Bool, true, false, cond}
 use mathlib.Core.List.{List, [], _∷_, _++_, map}
 use Prim.Native.Nat.{ℕ, zero, suc, _+_, _≤_, _<_}
@@ -8,18 +9,19 @@ use native.Mathlib.Omega.{arith}
 use lib.Dec.{eqb}
 use lib.ListN.{length, length-map, length-append}
 use borrow.Author.Tests.{ltb-false, eqb-false, eqb-true, not-false}
-use Rattle.units.specs.Limits.{hasFeasible}
 use Rattle.units.specs.Sets.{hasUnitFrom}
+use Rattle.chambers.specs.Chambers.{Chamber, sum, chambersOf, someFits}
 use Rattle.format.specs.declared.Header.{Header}
-use Rattle.format.specs.declared.Step.{Step}
+use Rattle.format.specs.declared.ChamberStep.{ChamberStep}
 use Rattle.format.specs.declared.Summary.{Summary}
 use Rattle.format.specs.Answer.{Answer, Refused, Given, unless}
-use Rattle.format.specs.Chain.{following, chainOf, linkCauses, Inside, stepsFrom}
-use Rattle.format.specs.Format.{unitLimit, recordLimit, sheetLength, unitsOf, recordsOf, header, nextOf, stepOf}
-use Rattle.format.specs.Reading.{formCauses, headerCauses, stepsCauses, recordsOn, stepsOf, openCauses, readCauses}
+use Rattle.format.specs.Chain.{following, chainOf, linkCauses, Within, Inside, stepsFrom}
+use Rattle.format.specs.Format.{unitLimit, recordLimit, sheetLength, isFirst, unitsOf, recordsOf, sizes, sizesList, chambersIn, header, nextOf, stepOf, limitsOf}
+use Rattle.format.specs.Reading.{formCauses, headerCauses, stepsCauses, recordsOn, stepsOf, openCauses, readCauses, ReaderNumber}
 use Rattle.format.specs.Stages.{headerRead, chainRead, summaryOf, openRead, summaryRead}
 use Rattle.format.proofs.Answers.{none-left, unless-append, given-same, passed-first, all-passed, unless-given, refused-whatever, Numbered, numbered-append}
 use Rattle.format.proofs.Chains.{Met, met-none, met-more, met-room}
+use Rattle.format.proofs.Records.{length-mono}
 
 -- ---- the header
 
@@ -28,8 +30,9 @@ pub record Sound (s : List ℕ) (h : Header) : Type 0 where
   pub some-units : 0 < h .units
   pub few-units : h .units ≤ unitLimit
   pub few-records : h .records ≤ recordLimit
+  pub all-dealt : sum (sizesList (h .sizes)) ≡ h .units
   pub own-start : hasUnitFrom (h .start) (h .units) ≡ false
-  pub whole : length s ≡ sheetLength (h .records)
+  pub whole : length s ≡ sheetLength (isFirst s) (h .records)
 
 positive : (n : ℕ) → (n ≡ 0 → ⊥) → 0 < n
 positive zero h = absurd (h refl)
@@ -45,7 +48,8 @@ header-sound s {h} e =
     let units = passed-first _ _ _ (no-unit .1) in
     let records = passed-first _ _ _ (units .1) in
     let zeros = passed-first _ _ _ (records .1) in
-    let start = passed-first _ _ _ (zeros .1) in
+    let chambers = passed-first _ _ _ (zeros .1) in
+    let start = passed-first _ _ _ (chambers .1) in
     let end = passed-first _ _ _ (start .1) in
     subst (Sound s) (given-same (none-left _ ∙ end .1))
     (record {
@@ -53,8 +57,9 @@ header-sound s {h} e =
       some-units = positive (unitsOf s) (eqb-false (unitsOf s) 0 (no-unit .0));
       few-units = ltb-false unitLimit (unitsOf s) (units .0);
       few-records = ltb-false recordLimit (recordsOf s) (records .0);
+      all-dealt = eqb-true (sum (sizesList (sizes s))) (unitsOf s) (not-false _ (chambers .0));
       own-start = start .0;
-      whole = eqb-true (length s) (sheetLength (recordsOf s)) (not-false _ (end .0));
+      whole = eqb-true (length s) (sheetLength (isFirst s) (recordsOf s)) (not-false _ (end .0));
     })
 
 -- ---- the chain
@@ -74,13 +79,17 @@ following-steps (suc k) s holder = go (eqb (nextOf s holder) 0) (following-steps
     go false e = ap (λ xs. stepOf s (nextOf s holder) ∷ xs) e
 
 -- Records without a fault lie within a sheet of r records, and with those met before they are r at the most.
-pub record Within (s : List ℕ) (r holder : ℕ) (on : List ℕ) (before : ℕ) : Type 0 where
+pub record Kept (s : List ℕ) (r holder : ℕ) (on : List ℕ) (before : ℕ) : Type 0 where
   pub inside : Inside s holder (length on)
   pub few : before + length on ≤ r
 
-module _ {A : Type 0} (v : A) (s : List ℕ) (r : ℕ) (whole : length s ≡ sheetLength r) where
+module _ {A : Type 0} (v : A) (s : List ℕ) (r : ℕ) (whole : length s ≡ sheetLength (isFirst s) r) where
+  -- each of r records lies within the sheet
+  lies : (j : ℕ) → j ≤ r → Within s j
+  lies j h = omega (arith, length-mono (isFirst s) j r h)
+
   pub links-within : (k : ℕ) (met : List ℕ) (holder : ℕ) {w : A} → Met r met → holder ≤ r
-      → unless (linkCauses r met holder (following k s holder)) (Given v) ≡ Given w → Within s r holder (following k s holder) (length met)
+      → unless (linkCauses r met holder (following k s holder)) (Given v) ≡ Given w → Kept s r holder (following k s holder) (length met)
   unfolding following linkCauses Inside
   links-within zero met holder m h e = record { inside = tt; few = omega (arith, met-room m) }
   links-within (suc k) met holder {w} m h e =
@@ -92,23 +101,24 @@ module _ {A : Type 0} (v : A) (s : List ℕ) (r : ℕ) (whole : length s ≡ she
       rest : List ℕ
       rest = following k s next
 
-      go : (Met r (met ++ (next ∷ [])) → next ≤ r → unless (linkCauses r (met ++ (next ∷ [])) next rest) (Given v) ≡ Given w → Within s r next rest (length (met ++ (next ∷ []))))
+      go : (Met r (met ++ (next ∷ [])) → next ≤ r → unless (linkCauses r (met ++ (next ∷ [])) next rest) (Given v) ≡ Given w → Kept s r next rest (length (met ++ (next ∷ []))))
           → (t : Bool) → eqb next 0 ≡ t → unless (linkCauses r met holder (cond t [] (next ∷ rest))) (Given v) ≡ Given w
-          → Within s r holder (cond t [] (next ∷ rest)) (length met)
+          → Kept s r holder (cond t [] (next ∷ rest)) (length met)
       go ih true q f = record { inside = tt; few = omega (arith, met-room m) }
       go ih false q f =
           let a = passed-first _ _ _ f in
           let b = passed-first _ _ _ (a .1) in
           let fits = ltb-false r next (a .0) in
-          let more = ih (met-more next (positive next (eqb-false next 0 q)) fits (b .0) m) fits (b .1) in
+          let some = positive next (eqb-false next 0 q) in
+          let more = ih (met-more next some fits (b .0) m) fits (b .1) in
           record {
-            inside = (omega arith, (omega arith, more .inside));
+            inside = (lies holder h, ((some, lies next fits), more .inside));
             few = omega (arith, more .few, length-append met (next ∷ []));
           }
 
 -- the chain of a sound sheet, where its links have no fault
 pub chain-within : {A : Type 0} (v : A) (s : List ℕ) {h : Header} {w : A} → Sound s h
-    → unless (linkCauses (h .records) [] 0 (chainOf s (h .records))) (Given v) ≡ Given w → Within s (h .records) 0 (chainOf s (h .records)) 0
+    → unless (linkCauses (h .records) [] 0 (chainOf s (h .records))) (Given v) ≡ Given w → Kept s (h .records) 0 (chainOf s (h .records)) 0
 unfolding chainOf
 chain-within v s {h} g e = links-within v s (h .records) (g .whole) (suc (h .records)) [] 0 (met-none (h .records)) (omega arith) e
 
@@ -120,9 +130,9 @@ pub open-staged : {A : Type 0} (s : List ℕ) (a : Answer A)
 open-staged s a = unless-append (formCauses s ++ headerCauses s) (linkCauses (recordsOf s) [] 0 (recordsOn s)) a
 
 -- those of the whole sheet: after these, the steps'
-pub read-staged : {A : Type 0} (s : List ℕ) (a : Answer A) → unless (readCauses s) a ≡ unless (openCauses s) (unless (stepsCauses (unitsOf s) 1 (stepsOf s)) a)
+pub read-staged : {A : Type 0} (s : List ℕ) (a : Answer A) → unless (readCauses s) a ≡ unless (openCauses s) (unless (stepsCauses (chambersIn s) (unitsOf s) 1 (stepsOf s)) a)
 unfolding readCauses
-read-staged s a = unless-append (openCauses s) (stepsCauses (unitsOf s) 1 (stepsOf s)) a
+read-staged s a = unless-append (openCauses s) (stepsCauses (chambersIn s) (unitsOf s) 1 (stepsOf s)) a
 
 pub header-refuses : (s : List ℕ) {n p : ℕ} → headerRead s ≡ Refused n p → Refused n p ≡ openRead s
 header-refuses s e = refused-whatever (formCauses s ++ headerCauses s) (header s) (sym e) _ ∙ sym (open-staged s (Given (summaryOf s)))
@@ -182,10 +192,10 @@ open-refuses s e = refused-whatever (openCauses s) (summaryOf s) (sym e) _ ∙ s
 
 -- past the chain, the steps decide
 pub steps-decide : (s : List ℕ) {x : Summary} → openRead s ≡ Given x
-    → unless (stepsCauses (x .header .units) 1 (stepsFrom s 0 (x .steps))) (Given x) ≡ summaryRead s
+    → unless (stepsCauses (chambersOf (sizesList (x .header .sizes))) (x .header .units) 1 (stepsFrom s 0 (x .steps))) (Given x) ≡ summaryRead s
 steps-decide s {x} e =
     let o = opened s e in
-    ap₂ (λ (y : Summary) xs. unless (stepsCauses (y .header .units) 1 xs) (Given y)) (sym (o .summary)) (o .steps)
+    ap₂ (λ (y : Summary) xs. unless (stepsCauses (chambersOf (sizesList (y .header .sizes))) (y .header .units) 1 xs) (Given y)) (sym (o .summary)) (o .steps)
     ∙ sym (all-passed (openCauses s) _ e _)
     ∙ sym (read-staged s (Given (summaryOf s)))
 
@@ -195,51 +205,58 @@ read-opens s e =
     all-passed (openCauses s) _ (sym (read-staged s (Given (summaryOf s))) ∙ e) (Given (summaryOf s))
     ∙ ap Given (given-same (unless-given (readCauses s) _ e))
 
--- Steps without a fault: the upper set has no unit from d up, and some set is feasible
-abbrev pub Faultless : ℕ → List Step → Type 0
-Faultless d [] = Unit {0}
-Faultless d (x ∷ xs) =
-    (hasUnitFrom (x .upper) d ≡ false) × ((hasFeasible (x .lower) (x .upper) (x .least) (x .greatest) ≡ true) × Faultless d xs)
+-- Steps without a fault: the bytes that are zero are, the upper set has no unit from d up, and some set is feasible
+abbrev pub Faultless : List Chamber → ℕ → List ChamberStep → Type 0
+Faultless cs d [] = Unit {0}
+Faultless cs d (x ∷ xs) =
+    (x .reserved ≡ 0) × ((hasUnitFrom (x .upper) d ≡ false) × ((someFits cs (limitsOf x) ≡ true) × Faultless cs d xs))
 
-steps-faultless : {A : Type 0} (d i : ℕ) (xs : List Step) (a : Answer A) {w : A} → unless (stepsCauses d i xs) a ≡ Given w → Faultless d xs
+steps-faultless : {A : Type 0} (cs : List Chamber) (d i : ℕ) (xs : List ChamberStep) (a : Answer A) {w : A} → unless (stepsCauses cs d i xs) a ≡ Given w → Faultless cs d xs
 unfolding stepsCauses
-steps-faultless d i [] a e = tt
-steps-faultless d i (x ∷ xs) a e =
-    let foreign = passed-first _ _ _ e in
-    let infeasible = passed-first _ _ _ (foreign .1) in
-    (foreign .0, (not-false _ (infeasible .0), steps-faultless d (i + 1) xs a (infeasible .1)))
+steps-faultless cs d i [] a e = tt
+steps-faultless cs d i (x ∷ xs) a e =
+    let zeros = passed-first _ _ _ e in
+    let foreign = passed-first _ _ _ (zeros .1) in
+    let infeasible = passed-first _ _ _ (foreign .1) in (
+      eqb-true (x .reserved) 0 (not-false _ (zeros .0)),
+      (foreign .0, (not-false _ (infeasible .0), steps-faultless cs d (i + 1) xs a (infeasible .1))),
+    )
 
-pub read-faultless : (s : List ℕ) {x : Summary} → summaryRead s ≡ Given x → Faultless (unitsOf s) (stepsOf s)
+pub read-faultless : (s : List ℕ) {x : Summary} → summaryRead s ≡ Given x → Faultless (chambersIn s) (unitsOf s) (stepsOf s)
 read-faultless s e =
-    steps-faultless (unitsOf s) 1 (stepsOf s) _ (unless-given (openCauses s) _ (sym (read-staged s (Given (summaryOf s))) ∙ e))
+    steps-faultless (chambersIn s) (unitsOf s) 1 (stepsOf s) _ (unless-given (openCauses s) _ (sym (read-staged s (Given (summaryOf s))) ∙ e))
 
 -- ---- the numbers of refusal that the reader can give
 
-module _ (P : ℕ → Type 0) (some : (n : ℕ) → 1 ≤ n → n ≤ 7 → P n) where
+module _ (P : ℕ → Type 0) (some : (n : ℕ) → ReaderNumber n → P n) where
+  low : (n : ℕ) → 1 ≤ n → n ≤ 7 → P n
+  low n l h = some n (inl (l, h))
+
   numbered-links : (r : ℕ) (met : List ℕ) (holder : ℕ) (on : List ℕ) → Numbered P (linkCauses r met holder on)
   unfolding linkCauses Numbered
   numbered-links r met holder [] = tt
-  numbered-links r met holder (j ∷ on) = (some _ (omega arith) (omega arith), (some _ (omega arith) (omega arith), numbered-links r (met ++ (j ∷ [])) j on))
+  numbered-links r met holder (j ∷ on) = (low _ (omega arith) (omega arith), (low _ (omega arith) (omega arith), numbered-links r (met ++ (j ∷ [])) j on))
 
-  numbered-steps : (d i : ℕ) (xs : List Step) → Numbered P (stepsCauses d i xs)
+  numbered-steps : (cs : List Chamber) (d i : ℕ) (xs : List ChamberStep) → Numbered P (stepsCauses cs d i xs)
   unfolding stepsCauses Numbered
-  numbered-steps d i [] = tt
-  numbered-steps d i (x ∷ xs) = (some _ (omega arith) (omega arith), (some _ (omega arith) (omega arith), numbered-steps d (i + 1) xs))
+  numbered-steps cs d i [] = tt
+  numbered-steps cs d i (x ∷ xs) =
+      (some 14 (inr (omega arith, omega arith)), (low 6 (omega arith) (omega arith), (low 7 (omega arith) (omega arith), numbered-steps cs d (i + 1) xs)))
 
-  -- 1 to 7 and no other
+  -- those of the reader and no other
   pub numbered-read : (s : List ℕ) → Numbered P (readCauses s)
   unfolding readCauses Numbered
   numbered-read s =
-      numbered-append P (formCauses s ++ headerCauses s ++ linkCauses (recordsOf s) [] 0 (recordsOn s)) (stepsCauses (unitsOf s) 1 (stepsOf s))
+      numbered-append P (formCauses s ++ headerCauses s ++ linkCauses (recordsOf s) [] 0 (recordsOn s)) (stepsCauses (chambersIn s) (unitsOf s) 1 (stepsOf s))
       (numbered-append P (formCauses s ++ headerCauses s) (linkCauses (recordsOf s) [] 0 (recordsOn s))
-      (one, (one, (two, (two, (three, (three, (three, (three, (three, (three, tt)))))))))) (numbered-links (recordsOf s) [] 0 (recordsOn s)))
-      (numbered-steps (unitsOf s) 1 (stepsOf s))
+      (one, (one, (two, (two, (three, (three, (three, (three, (some 13 (inr (omega arith, omega arith)), (three, (three, tt))))))))))) (numbered-links (recordsOf s) [] 0 (recordsOn s)))
+      (numbered-steps (chambersIn s) (unitsOf s) 1 (stepsOf s))
     where
       one : P 1
-      one = some 1 (omega arith) (omega arith)
+      one = low 1 (omega arith) (omega arith)
 
       two : P 2
-      two = some 2 (omega arith) (omega arith)
+      two = low 2 (omega arith) (omega arith)
 
       three : P 3
-      three = some 3 (omega arith) (omega arith)
+      three = low 3 (omega arith) (omega arith)

@@ -4,10 +4,10 @@ use Prim.Native.Nat.{ℕ, _+_, _≤_, _<_}
 use mathlib.Core.Path.{_≡_}
 use mathlib.Core.List.{List, map}
 use lib.ListN.{length}
-use Rattle.format.specs.declared.Step.{Step}
+use Rattle.format.specs.declared.ChamberStep.{ChamberStep}
 use Rattle.format.specs.Answer.{Answer, Given, unless}
 use Rattle.format.specs.Numbers.{byteAt}
-use Rattle.format.specs.Format.{headerSize, startAt, tagAt, recordOffset, recordsOf, nextOf}
+use Rattle.format.specs.Format.{headerSize, startAt, tagAt, recordOffset, isFirst, recordsOf, nextOf}
 use Rattle.format.specs.Reading.{readCauses, Campaign, campaignOf}
 
 -- The walk visits the header, which counts as record 0, and from each record that it visits the next one, if that is a record of the sheet.
@@ -19,7 +19,8 @@ pub data Visited (s : List ℕ) : ℕ → Type 0 where
 pub record AgreeTo (k : ℕ) (s t : List ℕ) : Type 0 where
   pub lengths : length s ≡ length t
   pub headers : (i : ℕ) → i < k → byteAt s i ≡ byteAt t i
-  pub records : (j : ℕ) → 0 < j → Visited s j → (i : ℕ) → i < tagAt → byteAt s (recordOffset j + i) ≡ byteAt t (recordOffset j + i)
+  pub records : (j : ℕ) → 0 < j → Visited s j → (i : ℕ) → i < tagAt (isFirst s)
+      → byteAt s (recordOffset (isFirst s) j + i) ≡ byteAt t (recordOffset (isFirst s) j + i)
 
 -- agreement up to the end of the header
 abbrev pub Agree : List ℕ → List ℕ → Type 0
@@ -30,12 +31,12 @@ abbrev pub AgreeButStart : List ℕ → List ℕ → Type 0
 AgreeButStart = AgreeTo startAt
 
 -- a step without its tag, and a campaign without tags
-abbrev pub untagged : Step → Step
-untagged x = record { lower = x .lower; upper = x .upper; least = x .least; greatest = x .greatest; tag = 0 }
+abbrev pub untagged : ChamberStep → ChamberStep
+untagged x = record { lower = x .lower; upper = x .upper; least = x .least; greatest = x .greatest; tag = 0; reserved = x .reserved }
 
 abbrev pub withoutTags : Campaign → Campaign
-withoutTags c = record { units = c .units; bound = c .bound; start = c .start; steps = map untagged (c .steps) }
+withoutTags c = record { units = c .units; bound = c .bound; start = c .start; chambers = c .chambers; steps = map untagged (c .steps) }
 
--- what a sheet says but for tags: one refusal of 1 to 7, or the campaign
+-- what a sheet says but for tags: one refusal of the reader, or the campaign
 abbrev pub readUntagged : List ℕ → Answer Campaign
 readUntagged s = unless (readCauses s) (Given (withoutTags (campaignOf s)))

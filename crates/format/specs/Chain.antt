@@ -1,12 +1,12 @@
 -- The chain: the records from the first on, each naming the next, and what can be wrong with its links.
-use Prim.Native.Nat.{ℕ, zero, suc, _+_, _≤_}
+use Prim.Native.Nat.{ℕ, zero, suc, _≤_, _<_}
 use mathlib.Core.Bool.{Bool, false, cond, _||_}
 use mathlib.Core.List.{List, [], _∷_, _++_}
 use lib.Dec.{ltb, eqb}
 use lib.ListN.{length}
-use Rattle.format.specs.declared.Step.{Step}
+use Rattle.format.specs.declared.ChamberStep.{ChamberStep}
 use Rattle.format.specs.Answer.{Cause, cause}
-use Rattle.format.specs.Format.{nextOf, stepOf, recordOffset}
+use Rattle.format.specs.Format.{sheetLength, isFirst, nextOf, stepOf}
 
 -- the records that follow one another from `holder` (a record, or 0 for the header) on, until a link is 0, k of them at the most
 unfoldable pub following : ℕ → List ℕ → ℕ → List ℕ
@@ -36,11 +36,15 @@ linkCauses r met holder (j ∷ js) =
 -- ---- for the functions that go along the chain
 
 -- the steps of the n records after record j, or after the header where j is 0
-unfoldable pub stepsFrom : List ℕ → ℕ → ℕ → List Step
+unfoldable pub stepsFrom : List ℕ → ℕ → ℕ → List ChamberStep
 stepsFrom s j zero = []
 stepsFrom s j (suc n) = stepOf s (nextOf s j) ∷ stepsFrom s (nextOf s j) n
 
--- record j and the n records after it lie within the sheet; where n is 0, nothing is asked
+-- record j lies whole within the sheet, or the header where j is 0
+abbrev pub Within : List ℕ → ℕ → Type 0
+Within s j = sheetLength (isFirst s) j ≤ length s
+
+-- record j and the n records after it do, and these are records and not the header; where n is 0, nothing is asked
 unfoldable pub Inside : List ℕ → ℕ → ℕ → Type 0
 Inside s j zero = Unit {0}
-Inside s j (suc n) = (recordOffset (j + 1) ≤ length s) × ((recordOffset (nextOf s j + 1) ≤ length s) × Inside s (nextOf s j) n)
+Inside s j (suc n) = Within s j × (((0 < nextOf s j) × Within s (nextOf s j)) × Inside s (nextOf s j) n)

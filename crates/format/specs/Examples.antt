@@ -5,10 +5,13 @@ use Prim.Native.Nat.{ℕ}
 use mathlib.Core.Path.{_≡_}
 use mathlib.Core.List.{List, [], _∷_, _++_}
 use lib.ListN.{replicate, set, take}
+use Rattle.format.specs.declared.ChamberStep.{ChamberStep}
 use Rattle.format.specs.declared.Step.{Step}
 use Rattle.format.specs.Answer.{Answer, Refused, Given}
+use Rattle.format.specs.Format.{letters}
+use Rattle.format.specs.Numbers.{bytesOf}
 use Rattle.format.specs.Reading.{Campaign, campaignRead}
-use Rattle.format.specs.Writing.{headerBytes, recordBytes, sheetOf}
+use Rattle.format.specs.Writing.{headerBytes, recordBytes, sheetOf, widened}
 
 -- ---- steps
 
@@ -18,6 +21,10 @@ tagged l u m g t = record { lower = l; upper = u; least = m; greatest = g; tag =
 
 abbrev pub step : ℕ → ℕ → ℕ → ℕ → Step
 step l u m g = tagged l u m g 0
+
+-- a step of edition 2: its lower and upper set, the four least and the four greatest numbers, the bytes that are zero, and its tag
+abbrev pub chambered : ℕ → ℕ → List ℕ → List ℕ → ℕ → ℕ → ChamberStep
+chambered l u ms gs z t = record { lower = l; upper = u; least = ms; greatest = gs; tag = t; reserved = z }
 
 -- ---- sheets
 
@@ -50,6 +57,47 @@ foreignAndInfeasible = step 0 4 2 2
 abbrev pair : Step → Step → List ℕ
 pair x y = sheetOf 2 1 0 (x ∷ y ∷ [])
 
+-- ---- sheets of edition 2
+
+-- a header of d units and r records, with the number of the first record, the bound, the four numbers of units and the start set
+unfoldable pub chamberHeader : ℕ → ℕ → ℕ → ℕ → List ℕ → ℕ → List ℕ
+chamberHeader d r first bound sizes start =
+    letters ++ (2 ∷ d ∷ []) ++ bytesOf 2 r ++ bytesOf 2 first ++ bytesOf 2 bound ++ sizes ++ bytesOf 8 start
+
+-- a record: its step, and the number of the record after it
+unfoldable pub chamberRecord : ChamberStep → ℕ → List ℕ
+chamberRecord x next =
+    bytesOf 8 (x .lower) ++ bytesOf 8 (x .upper) ++ x .least ++ x .greatest ++ bytesOf 2 next ++ bytesOf 2 (x .reserved) ++ bytesOf 4 (x .tag)
+
+-- four numbers
+abbrev pub four : ℕ → ℕ → ℕ → ℕ → List ℕ
+four a b c d = a ∷ b ∷ c ∷ d ∷ []
+
+-- no step, d units and these numbers of units
+abbrev pub noChamberStep : ℕ → List ℕ → List ℕ
+noChamberStep d sizes = chamberHeader d 0 0 0 sizes 0
+
+-- three units, the first of them in chamber 1 and the others in chamber 3, and two steps, of which the second lies in record 1
+abbrev pub twoChambers : ChamberStep → ChamberStep → List ℕ
+twoChambers x y = chamberHeader 3 3 2 515 (four 1 0 2 0) 5 ++ chamberRecord y 0 ++ chamberRecord x 1 ++ replicate 32 255
+
+-- A step that asks for one unit of chamber 3, with a byte of its own in each place of its numbers that plays no part. The faults that such a step may have: bytes that are not
+-- zero, a unit that is not there, a unit asked for in a chamber that has none, and two units in a chamber of one.
+abbrev pub oneOfThird : ChamberStep
+oneOfThird = chambered 1 7 (four 0 0 1 0) (four 9 17 1 34) 0 67305985
+
+abbrev pub notZero : ChamberStep
+notZero = chambered 1 7 (four 0 0 1 0) (four 9 17 1 34) 256 0
+
+abbrev beyond : ℕ → ChamberStep
+beyond z = chambered 1 15 (four 0 0 1 0) (four 9 17 1 34) z 0
+
+abbrev ofNone : ChamberStep
+ofNone = chambered 1 7 (four 0 0 1 1) (four 9 17 1 34) 0 0
+
+abbrev twoOfOne : ChamberStep
+twoOfOne = chambered 0 7 (four 2 0 0 0) (four 3 0 2 0) 0 0
+
 -- ---- the table
 
 -- a sheet, and what the reader says of it
@@ -65,13 +113,14 @@ All (x ∷ xs) = (campaignRead (x .sheet) ≡ x .says) × All xs
 abbrev row : List ℕ → Answer Campaign → Example
 row s a = record { sheet = s; says = a }
 
--- each refusal of 1 to 7, with each of its places
+-- each refusal of the reader, with each of its places
 unfoldable pub faults : List Example
 faults =
     row (take 23 noStep) (Refused 1 0)
-    ∷ row (replicate 6169 0) (Refused 1 0)
+    ∷ row (replicate 8217 0) (Refused 1 0)
     ∷ row (set noStep 3 78) (Refused 2 0)
-    ∷ row (set noStep 4 2) (Refused 2 4)
+    ∷ row (set noStep 4 0) (Refused 2 4)
+    ∷ row (set noStep 4 3) (Refused 2 4)
     ∷ row (set noStep 5 0) (Refused 3 5)
     ∷ row (set noStep 5 65) (Refused 3 5)
     ∷ row (headerBytes 1 257 0 0 0) (Refused 3 6)
@@ -84,14 +133,21 @@ faults =
     ∷ row (oneRecord 1 1) (Refused 5 1)
     ∷ row (pair sound foreign) (Refused 6 2)
     ∷ row (pair sound infeasible) (Refused 7 2)
+    ∷ row (noChamberStep 2 (four 1 0 0 0)) (Refused 13 12)
+    ∷ row (noChamberStep 1 (four 255 2 0 0)) (Refused 13 12)
+    ∷ row (noChamberStep 3 (four 1 1 1 0) ++ (0 ∷ [])) (Refused 3 24)
+    ∷ row (twoChambers oneOfThird notZero) (Refused 14 2)
+    ∷ row (twoChambers oneOfThird (beyond 0)) (Refused 6 2)
+    ∷ row (twoChambers oneOfThird ofNone) (Refused 7 2)
+    ∷ row (twoChambers oneOfThird twoOfOne) (Refused 7 2)
     ∷ []
 
 -- two faults at once: the one that is checked first
 unfoldable pub pairsOfFaults : List Example
 pairsOfFaults =
     row (set (take 23 noStep) 0 0) (Refused 1 0)
-    ∷ row (set (set noStep 0 0) 4 2) (Refused 2 0)
-    ∷ row (set (set noStep 4 2) 5 0) (Refused 2 4)
+    ∷ row (set (set noStep 0 0) 4 3) (Refused 2 0)
+    ∷ row (set (set noStep 4 3) 5 0) (Refused 2 4)
     ∷ row (headerBytes 0 257 0 0 0) (Refused 3 5)
     ∷ row (set (headerBytes 1 257 0 0 0) 12 1) (Refused 3 6)
     ∷ row (set (headerBytes 1 0 0 0 2) 12 1) (Refused 3 12)
@@ -101,13 +157,24 @@ pairsOfFaults =
     ∷ row (headerBytes 1 1 1 0 0 ++ recordBytes foreign 1) (Refused 5 1)
     ∷ row (pair foreignAndInfeasible sound) (Refused 6 1)
     ∷ row (pair infeasible foreign) (Refused 7 1)
+    ∷ row (chamberHeader 1 257 0 0 (four 0 0 0 0) 0) (Refused 3 6)
+    ∷ row (chamberHeader 1 0 0 0 (four 0 0 0 0) 2) (Refused 13 12)
+    ∷ row (chamberHeader 1 1 1 0 (four 1 0 0 0) 0 ++ chamberRecord notZero 2) (Refused 4 1)
+    ∷ row (twoChambers (beyond 1) oneOfThird) (Refused 14 1)
+    ∷ row (twoChambers (beyond 0) notZero) (Refused 6 1)
     ∷ []
 
--- sheets without a fault; the last two have the most units, and the most records
+-- Sheets without a fault. Of edition 1 they are read as having one chamber; two have the most units, and the most records, and with a byte more the length is wrong. Of edition 2:
+-- steps with four numbers each, an unused record whose bytes are not zero, and the most records.
 unfoldable pub campaigns : List Example
 campaigns =
-    row noStep (Given (record { units = 1; bound = 0; start = 0; steps = [] }))
-    ∷ row tagsAndUnused (Given (record { units = 3; bound = 515; start = 5; steps = tagged 2 3 1 2 4294967295 ∷ tagged 1 7 0 2 67305985 ∷ [] }))
-    ∷ row (set noStep 5 64) (Given (record { units = 64; bound = 0; start = 0; steps = [] }))
-    ∷ row (headerBytes 1 256 0 0 0 ++ replicate 6144 0) (Given (record { units = 1; bound = 0; start = 0; steps = [] }))
+    row noStep (Given (record { units = 1; bound = 0; start = 0; chambers = four 1 0 0 0; steps = [] }))
+    ∷ row tagsAndUnused
+    (Given (record { units = 3; bound = 515; start = 5; chambers = four 3 0 0 0; steps = widened (tagged 2 3 1 2 4294967295) ∷ widened (tagged 1 7 0 2 67305985) ∷ [] }))
+    ∷ row (set noStep 5 64) (Given (record { units = 64; bound = 0; start = 0; chambers = four 64 0 0 0; steps = [] }))
+    ∷ row (headerBytes 1 256 0 0 0 ++ replicate 6144 0) (Given (record { units = 1; bound = 0; start = 0; chambers = four 1 0 0 0; steps = [] }))
+    ∷ row (headerBytes 1 256 0 0 0 ++ replicate 6145 0) (Refused 3 24)
+    ∷ row (twoChambers oneOfThird (chambered 6 7 (four 0 0 1 0) (four 1 2 3 4) 0 4294967295))
+    (Given (record { units = 3; bound = 515; start = 5; chambers = four 1 0 2 0; steps = oneOfThird ∷ chambered 6 7 (four 0 0 1 0) (four 1 2 3 4) 0 4294967295 ∷ [] }))
+    ∷ row (chamberHeader 1 256 0 0 (four 0 0 0 1) 0 ++ replicate 8192 0) (Given (record { units = 1; bound = 0; start = 0; chambers = four 0 0 0 1; steps = [] }))
     ∷ []

@@ -9,7 +9,7 @@ use Rattle.format.specs.Chain.{chainOf, linkCauses}
 use Rattle.format.specs.Format.{header}
 use Rattle.format.specs.Reading.{formCauses, headerCauses, openCauses, readCauses, stepsOf}
 
--- refusals 1 to 3, or the numbers of the header
+-- refusals 1 to 3 and 13, or the numbers of the header
 abbrev pub headerRead : List ℕ → Answer Header
 headerRead s = unless (formCauses s ++ headerCauses s) (Given (header s))
 
@@ -21,10 +21,10 @@ chainRead s r = unless (linkCauses r [] 0 (chainOf s r)) (Given (length (chainOf
 abbrev pub summaryOf : List ℕ → Summary
 summaryOf s = record { header = header s; steps = length (stepsOf s) }
 
--- refusals 1 to 5, or the summary
+-- refusals 1 to 5 and 13, or the summary
 abbrev pub openRead : List ℕ → Answer Summary
 openRead s = unless (openCauses s) (Given (summaryOf s))
 
--- refusals 1 to 7, or the summary
+-- refusals 1 to 7, 13 and 14, or the summary
 abbrev pub summaryRead : List ℕ → Answer Summary
 summaryRead s = unless (readCauses s) (Given (summaryOf s))

@@ -1,4 +1,4 @@
--- The bytes of a sheet that is written from d, a bound, a start set and some steps: a record for each step, chained in the order of the steps, and no
+-- The bytes of a sheet of edition 1 that is written from d, a bound, a start set and some steps: a record for each step, chained in the order of the steps, and no
 -- other. That the chain goes through them in this order, and what the reader says of them, is `written-in-order` and `written-reads-back` in
 -- proofs/Demands.antt of `promises`.
 use Prim.Native.Nat.{ℕ, zero, suc, _+_, _^_, _<_}
@@ -6,14 +6,15 @@ use mathlib.Core.Bool.{cond}
 use mathlib.Core.List.{List, [], _∷_, _++_}
 use lib.Dec.{ltb}
 use lib.ListN.{length}
+use Rattle.format.specs.declared.ChamberStep.{ChamberStep}
 use Rattle.format.specs.declared.Step.{Step}
-use Rattle.format.specs.Format.{letters, edition}
+use Rattle.format.specs.Format.{letters, firstEdition}
 use Rattle.format.specs.Numbers.{bytesOf}
 
 -- a header of d units and r records, with the number of the first record, the bound and the start set
 unfoldable pub headerBytes : ℕ → ℕ → ℕ → ℕ → ℕ → List ℕ
 headerBytes d r first bound start =
-    letters ++ (edition ∷ d ∷ []) ++ bytesOf 2 r ++ bytesOf 2 first ++ bytesOf 2 bound ++ bytesOf 4 0 ++ bytesOf 8 start
+    letters ++ (firstEdition ∷ d ∷ []) ++ bytesOf 2 r ++ bytesOf 2 first ++ bytesOf 2 bound ++ bytesOf 4 0 ++ bytesOf 8 start
 
 -- a record: its step, and the number of the record after it
 unfoldable pub recordBytes : Step → ℕ → List ℕ
@@ -40,6 +41,11 @@ sheetOf d bound start xs =
 unfoldable pub numbersFrom : ℕ → ℕ → List ℕ
 numbersFrom j zero = []
 numbersFrom j (suc n) = j ∷ numbersFrom (j + 1) n
+
+-- a step as the reader gives it: its two numbers are those of the first chamber, and the others have zeros
+abbrev pub widened : Step → ChamberStep
+widened x =
+    record { lower = x .lower; upper = x .upper; least = x .least ∷ 0 ∷ 0 ∷ 0 ∷ []; greatest = x .greatest ∷ 0 ∷ 0 ∷ 0 ∷ []; tag = x .tag; reserved = 0 }
 
 -- each number of a step is as wide as its field
 pub record Wide (x : Step) : Type 0 where

@@ -1,17 +1,20 @@
 // The sizes of the steps of a sheet, a line for each.
 use super::digits::put_decimal;
 use super::lines::put_field;
+use format::Summary;
+use sheet::parts::deal;
+use sheet::parts::sizes_in;
 use sheet::record::follow;
-use sheet::record::sizes_of;
+use sheet::record::is_first;
 use sheet::record::step_at;
 use units::Sizes;
 use writer::put::put_byte;
-ghost use mathlib.Core.List.{map};
+ghost use mathlib.Core.Path.{_≡_};
 ghost use Prim.Native.Nat.{_+_, _*_, _≤_, _<_};
 ghost use lib.ListN.{length};
-ghost use Rattle.format.specs.Chain.{Inside, stepsFrom};
-ghost use Rattle.format.specs.Format.{recordLimit, limitsOf};
-ghost use Rattle.promises.specs.Listing.{sizesLine, sizesLines};
+ghost use Rattle.format.specs.Answer.{Given};
+ghost use Rattle.format.specs.Stages.{summaryRead};
+ghost use Rattle.promises.specs.Listing.{sizesLine, sizesListing};
 ghost use Rattle.listing.specs.Room.{sizesMost, TwoDigits};
 ghost use Rattle.writer.specs.Placed.{Placed};
 
@@ -36,19 +39,21 @@ fn put_sizes_line(step: u32, sizes: Sizes, out: &mut [u8], at: usize) -> usize
     }
 }
 
-// The lines of the first n steps of the chain.
-pub(crate) fn put_sizes_lines(sheet: &[u8], n: u32, out: &mut [u8]) -> usize
-    requires { ⌜ Inside (now sheet) 0 n ⌝ }
-    requires { ⌜ n ≤ recordLimit ⌝ }
-    requires { ⌜ sizesMost * n ≤ length (now out) ⌝ }
-    ensures { λ r. ⌜ Placed (sizesLines 1 (map limitsOf (stepsFrom (now (sheet .entry)) 0 n))) (now (out .entry)) 0 (now (out .exit)) r ⌝ }
+// The lines of all steps of a sheet that was read.
+pub(crate) fn put_sizes_lines(sheet: &[u8], x: Summary, out: &mut [u8]) -> usize
+    requires { ⌜ summaryRead (now sheet) ≡ Given x ⌝ }
+    requires { ⌜ sizesMost * x .steps ≤ length (now out) ⌝ }
+    ensures { λ r. ⌜ Placed (sizesListing (now (sheet .entry))) (now (out .entry)) 0 (now (out .exit)) r ⌝ }
 {
+    let header = x.header;
+    let chambers = deal(header.sizes);
+    let first = is_first(sheet);
     let mut at = 0;
     let mut next = 0;
     let mut i = 0;
-    while i < n {
-        at = follow(sheet, at);
-        let sizes = sizes_of(step_at(sheet, at));
+    while i < x.steps {
+        at = follow(sheet, first, at);
+        let sizes = sizes_in(step_at(sheet, first, at), chambers);
         i += 1;
         next = put_sizes_line(i, sizes, out, next);
     }

@@ -1,27 +1,33 @@
-// Tries the listings on sheets whose text is written out by hand (no bytes, no step, a bound that is too small, a chain that leads back, an input that is too
-// long, and full sheets with numbers of the most digits), and writes how often they were right.
+// Tries the listings on sheets whose text is written out by hand (no bytes, no step, a bound that is too small, a chain that leads back, units in two chambers, an
+// input that is too long, and full sheets with numbers of the most digits), and writes how often they were right.
 mod lines;
 
 use lines::has_lines;
 use lines::is_at;
 use sheet::Sheet;
+use trials::layout::ChamberLimits;
 use trials::layout::Head;
 use trials::layout::Limits;
 use trials::layout::SPACE;
 use trials::layout::Space;
+use trials::layout::chamber_length_of;
 use trials::layout::length_of;
+use trials::layout::put_chamber_head;
+use trials::layout::put_chamber_limits;
+use trials::layout::put_chamber_link;
 use trials::layout::put_head;
 use trials::layout::put_limits;
 use trials::layout::put_link;
 use trials::layout::put_most_steps;
 use trials::tally::Tally;
+ghost use mathlib.Core.Bool.{false};
 ghost use Prim.Native.Nat.{_+_, _≤_, _<_};
 ghost use lib.ListN.{length};
 ghost use Rattle.format.specs.Format.{recordSize, recordLimit, longest};
 
 // Whether the listing of the first bytes is that text.
 fn has_listing(bytes: &Space, length: usize, expected: &[u8]) -> bool
-    requires { ⌜ length ≤ longest + recordSize ⌝ }
+    requires { ⌜ length ≤ longest + recordSize false ⌝ }
 {
     let whole: &[u8] = bytes;
     let mut text = [0u8; listing::LONGEST];
@@ -31,7 +37,7 @@ fn has_listing(bytes: &Space, length: usize, expected: &[u8]) -> bool
 
 // Whether their listing of sizes is that text.
 fn has_sizes(bytes: &Space, length: usize, expected: &[u8]) -> bool
-    requires { ⌜ length ≤ longest + recordSize ⌝ }
+    requires { ⌜ length ≤ longest + recordSize false ⌝ }
 {
     let whole: &[u8] = bytes;
     let mut text = [0u8; listing::LONGEST_SIZES];
@@ -41,7 +47,7 @@ fn has_sizes(bytes: &Space, length: usize, expected: &[u8]) -> bool
 
 // Tries the first bytes, of which both texts are given.
 fn try_both(bytes: &Space, length: usize, plan: &[u8], sizes: &[u8]) -> Tally
-    requires { ⌜ length ≤ longest + recordSize ⌝ }
+    requires { ⌜ length ≤ longest + recordSize false ⌝ }
 {
     Tally::of(has_listing(bytes, length, plan)).plus(Tally::of(has_sizes(bytes, length, sizes)))
 }
@@ -128,7 +134,55 @@ fn try_link_back() -> Tally {
     try_both(&bytes, length_of(4), b"refused 5 4\n", b"refused 5 4\n")
 }
 
+// ---- a sheet of edition 2
+
+// Puts into record j a step in which just one unit of chamber 1 and one of chamber 3 must be on, and its link. The empty chambers ask for none.
+fn put_one_of_each(bytes: &mut Space, j: usize, next: usize)
+    requires { ⌜ 0 < j ⌝ }
+    requires { ⌜ j ≤ recordLimit ⌝ }
+    requires { ⌜ next < 65536 ⌝ }
+{
+    put_chamber_limits(
+        bytes,
+        j,
+        ChamberLimits {
+            lower: 0,
+            upper: 15,
+            least: [1, 0, 1, 0],
+            greatest: [1, 7, 1, 7],
+        },
+    );
+    put_chamber_link(bytes, j, next);
+}
+
+// Tries two such steps, with two units in each of both chambers.
+fn try_chambers() -> Tally {
+    let mut bytes = [0u8; SPACE];
+    put_chamber_head(
+        &mut bytes,
+        Head {
+            units: 4,
+            records: 2,
+            bound: 2,
+            start: 0,
+        },
+        [2, 0, 2, 0],
+    );
+    put_chamber_link(&mut bytes, 0, 1);
+    put_one_of_each(&mut bytes, 1, 2);
+    put_one_of_each(&mut bytes, 2, 0);
+    try_both(
+        &bytes,
+        chamber_length_of(2),
+        b"units 4 steps 2 bound 2\n1 000000000000000a 2\n2 000000000000000a 0\ntotal 2\n",
+        b"1 2 2\n2 2 2\n",
+    )
+}
+
 // ---- full sheets
+
+// The bytes of a full sheet of edition 1.
+const FULL: usize = 6168;
 
 // Puts 64 units and 256 steps, with two kinds of limits in turns.
 fn put_most(bytes: &mut Space, odd: Limits, even: Limits) {
@@ -170,7 +224,7 @@ fn is_wide_listing(text: &[u8]) -> bool {
 fn has_wide_listing(bytes: &Space) -> bool {
     let whole: &[u8] = bytes;
     let mut text = [0u8; listing::LONGEST];
-    let count = listing::list_plan(&whole[0..Sheet::LONGEST], &mut text);
+    let count = listing::list_plan(&whole[0..FULL], &mut text);
     is_wide_listing(&text[..count])
 }
 
@@ -189,7 +243,7 @@ fn has_wide_sizes(bytes: &Space, odd: &[u8], even: &[u8]) -> bool
 {
     let whole: &[u8] = bytes;
     let mut text = [0u8; listing::LONGEST_SIZES];
-    let count = listing::list_sizes(&whole[0..Sheet::LONGEST], &mut text);
+    let count = listing::list_sizes(&whole[0..FULL], &mut text);
     is_wide_sizes(&text[..count], odd, even)
 }
 
@@ -201,16 +255,17 @@ fn try_halves() -> Tally {
     plan.plus(Tally::of(has_wide_sizes(&bytes, b" 32 32\n", b" 32 32\n")))
 }
 
-// Tries the same with one byte more.
+// Tries the same with one byte more, and with one more than any sheet has.
 fn try_too_long() -> Tally {
     let mut bytes = [0u8; SPACE];
     put_most(&mut bytes, just(u64::MAX >> 32), just(u64::MAX << 32));
-    try_both(
+    let longer = try_both(&bytes, FULL + 1, b"refused 3 24\n", b"refused 3 24\n");
+    longer.plus(try_both(
         &bytes,
         Sheet::LONGEST + 1,
         b"refused 1 0\n",
         b"refused 1 0\n",
-    )
+    ))
 }
 
 // The limits of a step in which all units may be on.
@@ -239,6 +294,7 @@ fn main() {
         .plus(try_no_step())
         .plus(try_bound())
         .plus(try_link_back())
+        .plus(try_chambers())
         .plus(try_halves())
         .plus(try_too_long())
         .plus(try_many_sizes());

@@ -20,7 +20,7 @@ use Rattle.plans.proofs.AllPlans.{Shows, SomePlanBy, SomePlan, Low, bel
 -- ---- joined plans
 
 -- all of the plans have n sets
-abbrev Long : ℕ → List (List ℕ) → Type 0
+abbrev pub Long : ℕ → List (List ℕ) → Type 0
 Long n ps = (p : List ℕ) → List·Memᴰ p ps → length p ≡ n
 
 -- f is what the chart takes of a set of a plan
@@ -41,7 +41,7 @@ module _ (f : ℕ → ℕ) where
   bit-joined (x ∷ p) (y ∷ r) (suc i) u l k = bit-joined p r i u (omega arith) (omega arith)
 
   -- all plans joined
-  all-length : (n : ℕ) (ps : List (List ℕ)) → Long n ps → length (joinedAll n (map (map f) ps)) ≡ n
+  pub all-length : (n : ℕ) (ps : List (List ℕ)) → Long n ps → length (joinedAll n (map (map f) ps)) ≡ n
   unfolding joinedAll
   all-length n [] h = length-replicate n 0
   all-length n (p ∷ ps) h =
@@ -49,7 +49,7 @@ module _ (f : ℕ → ℕ) where
       joined-length p (joinedAll n (map (map f) ps)) (h p (List·Memᴰ·head refl) ∙ sym ih) ∙ ih
 
   -- joined they have a unit exactly if f takes it of one of them
-  all-member : (n i u : ℕ) (ps : List (List ℕ)) → i < n → Long n ps
+  pub all-member : (n i u : ℕ) (ps : List (List ℕ)) → i < n → Long n ps
       → (bit (getD (joinedAll n (map (map f) ps)) i 0) u ≡ 1) ↔ ((p : List ℕ) × List·Memᴰ p ps × (bit (f (getD p i 0)) u ≡ 1))
   unfolding joinedAll
   all-member n i u [] l h = (

@@ -9,7 +9,7 @@ use native.Mathlib.Omega.{arith}
 use lib.ListN.{length}
 use Rattle.plans.specs.declared.Limits.{Limits}
 use Rattle.plans.specs.Switch.{Allows, Throughout, FeasiblePlan, total, Satisfiable}
-use Rattle.plans.specs.Support.{Ordered, supportFrom, findSupportBy, findSupport}
+use Rattle.plans.specs.Support.{Ordered, supportFrom, findSupportBy}
 use Rattle.plans.specs.Plans.{allows, Below, plansOf, leastOf, fewest}
 use Rattle.plans.proofs.AllPlans.{Low, below-low, allows-exactly, listed-feasible, feasible-listed}
 use Rattle.plans.proofs.Greedy.{plan-greedy}
@@ -52,11 +52,7 @@ support-fewest {ties} o d start ss b f =
     (best .0, (sym e, λ q g. omega (arith, best .1 q g)))
 
 -- it has a set for each step
-support-from-length : (ties : ℕ → ℕ → ℕ → Bool) (n i before : ℕ) (ss : List Limits) → length (supportFrom ties n i before ss) ≡ length ss
+pub support-from-length : (ties : ℕ → ℕ → ℕ → Bool) (n i before : ℕ) (ss : List Limits) → length (supportFrom ties n i before ss) ≡ length ss
 unfolding supportFrom
 support-from-length ties n i before [] = refl
 support-from-length ties n i before (s ∷ ss) = ap suc (support-from-length ties n (i + 1) _ ss)
-
-pub support-length : (start : ℕ) (ss : List Limits) → length (findSupport start ss) ≡ length ss
-unfolding findSupportBy
-support-length start ss = support-from-length _ (length ss) 1 start ss

@@ -6,40 +6,41 @@
 use mathlib.Core.Path.{_≡_, refl, sym, ap, subst, _∙_}
 use mathlib.Core.Logic.{_↔_, _⊎_, inl, inr}
 use mathlib.Core.Bool.{Bool, true, false}
-use mathlib.Core.List.{List, [], _++_, map}
+use mathlib.Core.List.{List, [], _++_, map, List·Memᴰ}
 use Prim.Native.Nat.{ℕ, suc, _+_, _-_, _^_, _≤_, _<_, min}
 use native.Mathlib.Omega.{arith}
-use lib.ListN.{length, length-map, take, drop}
+use lib.ListN.{length, take, drop}
 use lib.Seq.{take-at}
-use Rattle.units.specs.Limits.{Feasible, HasSize, hasFeasible}
+use Rattle.units.specs.Limits.{HasSize}
 use Rattle.units.specs.Sets.{size}
 use Rattle.units.specs.declared.Sizes.the-variants.{Between}
-use Rattle.units.proofs.Limits.{some-feasible, sizes-exact, sizes-ordered, some-sizes}
-use Rattle.plans.specs.declared.Limits.{Limits}
-use Rattle.plans.specs.Rows.{stepAt}
 use Rattle.plans.specs.Support.{Ordered, tieOrder}
-use Rattle.plans.specs.Switch.{Allows, sizesOf, FeasiblePlan, total, laterTotal}
-use Rattle.plans.proofs.Laid.{feasible-at}
+use Rattle.plans.specs.Switch.{Throughout, total, laterTotal}
 use Rattle.plans.proofs.Orders.{tie-ordered}
+use Rattle.chambers.specs.Chambers.{ChamberLimits, sum, chambersOf, Fits, sizesIn, someFits}
+use Rattle.chambers.proofs.Bench.{below-in, sound-at}
+use Rattle.chambers.proofs.Dealt.{dealt-apart, dealt-whole}
+use Rattle.chambers.proofs.Sizes.{some-fits, sizes-in-exact, sizes-in-ordered, some-sizes-in}
+use Rattle.format.specs.declared.ChamberStep.{ChamberStep}
 use Rattle.format.specs.declared.Step.{Step}
 use Rattle.format.specs.Agreement.{Agree, AgreeButStart, untagged, readUntagged}
 use Rattle.format.specs.Answer.{Refused, Given, unless}
 use Rattle.format.specs.Chain.{following, chainOf, linkCauses}
-use Rattle.format.specs.Format.{startAt, sheetLength, limitsOf, unitsOf, recordsOf, boundOf, startOf}
-use Rattle.format.specs.Reading.{stepsCauses, recordsOn, stepsOf, readCauses, campaignOf, campaignRead}
-use Rattle.format.specs.Writing.{sheetOf, numbersFrom, AllWide}
+use Rattle.format.specs.Format.{startAt, sheetLength, limitsOf, isFirst, unitsOf, recordsOf, boundOf, startOf, oneSize, sizesList, chambersIn}
+use Rattle.format.specs.Reading.{stepsCauses, recordsOn, stepsOf, readCauses, ReaderNumber, campaignOf, campaignRead}
+use Rattle.format.specs.Writing.{sheetOf, numbersFrom, widened, AllWide}
 use Rattle.format.proofs.Agreements.{agree-itself, same-read}
 use Rattle.format.proofs.Answers.{none-holds, numbered-append, Numbered}
 use Rattle.format.proofs.Chains.{chain-is-long-enough}
 use Rattle.format.proofs.Readings.{numbered-read}
 use Rattle.format.proofs.Writings.{sheet-length, records-written, chain-written, written-reads}
 use Rattle.promises.specs.Chart.{onWords, offWords, charted, warmChart}
-use Rattle.promises.specs.Common.{limitsOn, placesCauses, written, refusedReply, fullReply}
+use Rattle.promises.specs.Common.{limitsOn, FeasibleOn, placesCauses, written, refusedReply, fullReply}
 use Rattle.promises.specs.Plan.{supportOn, boundCauses, planRefusals, planned, warmPlan}
 use Rattle.promises.specs.declared.Reply.{Reply}
 use Rattle.promises.specs.declared.Written.{Written}
 use Rattle.promises.specs.Listing.{refusedLine, planLines, listingRefusals, listed, listing, printed, listPlan, sizesLines, sizesListed, sizesListing, listSizes}
-use Rattle.promises.specs.Statements.{Exact, Passes, Meets, HandedOut, supportBy, FewestAndExact, FewestLater}
+use Rattle.promises.specs.Statements.{Exact, Passes, Meets, HandedOut, supportBy, FewestAndExact, FewestLater, OneChamber}
 use Rattle.promises.specs.Steps.{stepsRefusals, stepsReply, stepsWritten, warmSteps}
 use Rattle.promises.specs.Verdict.{wordsCauses, verdictRefusals, accepts, judged, warmVerdict}
 use Rattle.promises.specs.Write.{writeRefusals, refusedWritten, fullWritten, wrote, warmWrite}
@@ -47,36 +48,42 @@ use Rattle.promises.proofs.Charts.{words-length, words-cells, no-others
 use Rattle.promises.proofs.Exactly.{exact, no-first}
 use Rattle.promises.proofs.Likeness.{alike-reply, alike-list, alike-plan, alike-chart, alike-verdict, alike-listing, alike-sizes}
 use Rattle.promises.proofs.Plans.{fewest-by, plan-fewest, plan-length-on, over-bound, in-bound, plan-open, plan-given}
-use Rattle.promises.proofs.Read.{satisfiable, passed}
+use Rattle.promises.proofs.Read.{bench, passed}
 use Rattle.promises.proofs.Restarts.{restarted, total-restarted}
+use Rattle.promises.proofs.Single.{single}
 use Rattle.promises.proofs.Verdicts.{verdict-given, accepts-exactly, turned-down}
 use Rattle.promises.proofs.Writes.{Limited, limited, write-numbers}
 
 -- ---- demand 1
 
--- refusals 1 to 8, and none other
+-- refusals 1 to 8, 13 and 14, and none other
 abbrev pub StepsNumber : ℕ → Type 0
-StepsNumber n = (1 ≤ n) × (n ≤ 8)
+StepsNumber n = ReaderNumber n ⊎ (n ≡ 8)
 
-pub demand-1-steps : (s : List ℕ) (out : List Step)
+pub demand-1-steps : (s : List ℕ) (out : List ChamberStep)
     → Exact (stepsRefusals s (length out)) StepsNumber (warmSteps s out) (λ n p. (stepsReply (Refused n p), out))
     (stepsReply (Given (campaignOf s)), written (stepsOf s) out)
 unfolding warmSteps stepsWritten campaignOf stepsRefusals Numbered
 demand-1-steps s out =
     exact (stepsRefusals s (length out)) StepsNumber
-    (numbered-append StepsNumber (readCauses s) (placesCauses s (length out)) (numbered-read StepsNumber (λ n l h. (l, omega arith)) s)
-    ((omega arith, omega arith), tt)) (campaignOf s) (λ a. (stepsReply a, stepsWritten a out))
+    (numbered-append StepsNumber (readCauses s) (placesCauses s (length out)) (numbered-read StepsNumber (λ n h. inl h) s)
+    (inr refl, tt)) (campaignOf s) (λ a. (stepsReply a, stepsWritten a out))
 
--- refusals 1 to 9
+-- refusals 1 to 9, 13 and 14
 abbrev pub PlanNumber : ℕ → Type 0
-PlanNumber n = (1 ≤ n) × (n ≤ 9)
+PlanNumber n = ReaderNumber n ⊎ ((8 ≤ n) × (n ≤ 9))
+
+not-zero : (n : ℕ) → PlanNumber n → n ≡ 0 → ⊥
+not-zero n (inl (inl (l, h))) e = omega arith
+not-zero n (inl (inr (l, h))) e = omega arith
+not-zero n (inr (l, h)) e = omega arith
 
 plan-numbers : (s : List ℕ) (places : ℕ) → Numbered PlanNumber (planRefusals s places)
 unfolding planRefusals Numbered
 plan-numbers s places =
     numbered-append PlanNumber (readCauses s ++ placesCauses s places) (boundCauses s)
-    (numbered-append PlanNumber (readCauses s) (placesCauses s places) (numbered-read PlanNumber (λ n l h. (l, omega arith)) s) ((omega arith, omega arith), tt))
-    ((omega arith, omega arith), tt)
+    (numbered-append PlanNumber (readCauses s) (placesCauses s places) (numbered-read PlanNumber (λ n h. inl h) s) (inr (omega arith, omega arith), tt))
+    (inr (omega arith, omega arith), tt)
 
 pub demand-1-plan : (s out : List ℕ)
     → Exact (planRefusals s (length out)) PlanNumber (warmPlan s out) (λ n p. (refusedReply n p, out))
@@ -93,21 +100,21 @@ demand-1-chart s on off =
     let places = min (length on) (length off) in
     exact (planRefusals s places) PlanNumber (plan-numbers s places) (supportOn s) (charted (startOf s) (onWords s) (offWords s) on off)
 
--- refusals 1 to 7 and 10
+-- refusals 1 to 7, 10, 13 and 14
 abbrev pub VerdictNumber : ℕ → Type 0
-VerdictNumber n = ((1 ≤ n) × (n ≤ 7)) ⊎ (n ≡ 10)
+VerdictNumber n = ReaderNumber n ⊎ (n ≡ 10)
 
 pub demand-1-verdict : (s plan : List ℕ)
     → Exact (verdictRefusals s (length plan)) VerdictNumber (warmVerdict s plan) refusedReply (fullReply (total (startOf s) plan) (accepts s plan))
 unfolding warmVerdict judged verdictRefusals Numbered
 demand-1-verdict s plan =
     exact (verdictRefusals s (length plan)) VerdictNumber
-    (numbered-append VerdictNumber (readCauses s) (wordsCauses s (length plan)) (numbered-read VerdictNumber (λ n l h. inl (l, h)) s) (inr refl, tt))
+    (numbered-append VerdictNumber (readCauses s) (wordsCauses s (length plan)) (numbered-read VerdictNumber (λ n h. inl h) s) (inr refl, tt))
     (fullReply (total (startOf s) plan) (accepts s plan)) judged
 
--- refusals 1 to 7 and 9
+-- refusals 1 to 7, 9, 13 and 14
 abbrev pub ListingNumber : ℕ → Type 0
-ListingNumber n = ((1 ≤ n) × (n ≤ 7)) ⊎ (n ≡ 9)
+ListingNumber n = ReaderNumber n ⊎ (n ≡ 9)
 
 -- the listing is the line of that refusal, or the lines of the plan that FindSupport gives
 pub demand-1-listing : (s out : List ℕ)
@@ -116,17 +123,14 @@ pub demand-1-listing : (s out : List ℕ)
 unfolding listing listed listingRefusals Numbered
 demand-1-listing s out =
     exact (listingRefusals s) ListingNumber
-    (numbered-append ListingNumber (readCauses s) (boundCauses s) (numbered-read ListingNumber (λ n l h. inl (l, h)) s) (inr refl, tt)) (supportOn s)
+    (numbered-append ListingNumber (readCauses s) (boundCauses s) (numbered-read ListingNumber (λ n h. inl h) s) (inr refl, tt)) (supportOn s)
     (λ a. printed (listed s a) out)
 
--- refusals 1 to 7: the sizes are listed of each sheet that passes the checks, whatever its bound
-abbrev pub SizesNumber : ℕ → Type 0
-SizesNumber n = (1 ≤ n) × (n ≤ 7)
-
+-- the refusals of the reader: the sizes are listed of each sheet that passes the checks, whatever its bound
 pub demand-1-sizes : (s out : List ℕ)
-    → Exact (readCauses s) SizesNumber (listSizes s out) (λ n p. printed (refusedLine n p) out) (printed (sizesLines 1 (limitsOn s)) out)
+    → Exact (readCauses s) ReaderNumber (listSizes s out) (λ n p. printed (refusedLine n p) out) (printed (sizesLines (chambersIn s) 1 (limitsOn s)) out)
 unfolding sizesListing sizesListed
-demand-1-sizes s out = exact (readCauses s) SizesNumber (numbered-read SizesNumber (λ n l h. (l, h)) s) (limitsOn s) (λ a. printed (sizesListed a) out)
+demand-1-sizes s out = exact (readCauses s) ReaderNumber (numbered-read ReaderNumber (λ n h. h) s) (limitsOn s) (λ a. printed (sizesListed (chambersIn s) a) out)
 
 -- refusals 11 and 12
 abbrev pub WriteNumber : ℕ → Type 0
@@ -154,7 +158,7 @@ pub demand-2-plan : (s out : List ℕ) → warmPlan s out .0 .refusal ≡ 0 → 
 unfolding warmVerdict judged campaignOf
 demand-2-plan s out handed =
     let exactly = demand-1-plan s out in
-    let none = no-first exactly (λ (r : Reply × List ℕ). r .0 .refusal) (λ n p number e. omega (arith, number, e)) handed in
+    let none = no-first exactly (λ (r : Reply × List ℕ). r .0 .refusal) (λ n p number e. not-zero n number e) handed in
     let reply = exactly .replies none in
     let (e, bound) = plan-given s (length out) (none-holds (planRefusals s (length out)) (Given (supportOn s)) none) in
     let best = plan-fewest s e in
@@ -174,7 +178,7 @@ demand-2-plan s out handed =
 -- Whatever strict order breaks the ties of each step, FindSupport's plan is feasible, and its total is the fewest, the number that plan and chart report.
 pub demand-3-any-ties : (ties : ℕ → ℕ → ℕ → Bool) → ((i : ℕ) → Ordered (ties i)) → (s plan on off : List ℕ) → Passes s
     → length (stepsOf s) ≤ length plan → length (stepsOf s) ≤ length on → length (stepsOf s) ≤ length off
-    → FeasiblePlan (limitsOn s) (supportBy ties s) × FewestAndExact s plan on off (total (startOf s) (supportBy ties s))
+    → FeasibleOn s (supportBy ties s) × FewestAndExact s plan on off (total (startOf s) (supportBy ties s))
 unfolding warmPlan planned warmChart charted campaignOf onWords offWords
 demand-3-any-ties ties o s plan on off ok plan-room on-room off-room =
     let e = passed s ok in
@@ -203,27 +207,25 @@ pub demand-3 : (s plan on off : List ℕ) → Passes s
 unfolding supportOn
 demand-3 s plan on off ok plan-room on-room off-room = demand-3-any-ties (λ i. tieOrder) (λ i. tie-ordered) s plan on off ok plan-room on-room off-room .1
 
--- what row 7 of the table tests: it holds of a step exactly if no set is feasible there
-pub a-feasible-set : (x : Step) → hasFeasible (x .lower) (x .upper) (x .least) (x .greatest) ≡ true
-    ↔ ((set : ℕ) × Feasible (x .lower) (x .upper) (x .least) (x .greatest) set)
-a-feasible-set x = some-feasible (x .lower) (x .upper) (x .least) (x .greatest)
+-- What row 7 of the table tests, whatever the numbers of units of the chambers: it holds of a step exactly if no set is feasible there.
+pub a-feasible-set : (sizes : List ℕ) (x : ChamberStep) → someFits (chambersOf sizes) (limitsOf x) ≡ true ↔ ((set : ℕ) × Fits (chambersOf sizes) (limitsOf x) set)
+a-feasible-set sizes x = some-fits (chambersOf sizes) (limitsOf x) (dealt-apart 0 0 sizes)
 
--- The sizes of a step, which are listed. A number is the size of some feasible set exactly if it lies from the least to the greatest; if the step has no sizes
--- (`NoSet`), no set is feasible.
-pub the-sizes : (x : Step) (k : ℕ) → ((set : ℕ) × (Allows (limitsOf x) set × (size set ≡ k))) ↔ HasSize (sizesOf (limitsOf x)) k
-the-sizes x k = sizes-exact (x .lower) (x .upper) (x .least) (x .greatest) k
+-- The sizes of a step, which are listed, where its upper set has no unit from d up. A number is the size of some feasible set exactly if it lies from the least to the
+-- greatest; if the step has no sizes (`NoSet`), no set is feasible.
+pub the-sizes : (d : ℕ) (sizes : List ℕ) → sum sizes ≡ d → (x : ChamberStep) → x .upper < 2 ^ d
+    → (k : ℕ) → ((set : ℕ) × (Fits (chambersOf sizes) (limitsOf x) set × (size set ≡ k))) ↔ HasSize (sizesIn (chambersOf sizes) (limitsOf x)) k
+the-sizes d sizes all x own =
+    sizes-in-exact (chambersOf sizes) (limitsOf x) (dealt-apart 0 0 sizes) (below-in d (chambersOf sizes) (dealt-whole d sizes all) (x .upper) own)
 
 -- the least is at the most the greatest, so that both are sizes of feasible sets
-pub the-sizes-in-order : (x : Step) (few many : ℕ) → sizesOf (limitsOf x) ≡ Between few many → few ≤ many
-the-sizes-in-order x few many = sizes-ordered (x .lower) (x .upper) (x .least) (x .greatest) few many
+pub the-sizes-in-order : (sizes : List ℕ) (x : ChamberStep) (few many : ℕ) → sizesIn (chambersOf sizes) (limitsOf x) ≡ Between few many → few ≤ many
+the-sizes-in-order sizes x few many = sizes-in-ordered (chambersOf sizes) (limitsOf x) few many
 
--- each step of a sheet that passes the checks has sizes, and so a line; steps count from 0 here
-pub each-step-has-sizes : (s : List ℕ) → Passes s → (i : ℕ) → i < length (stepsOf s)
-    → (few : ℕ) × ((many : ℕ) × (sizesOf (stepAt (limitsOn s) i) ≡ Between few many))
-each-step-has-sizes s ok i l =
-    let x = stepAt (limitsOn s) i in
-    some-sizes (x .lower) (x .upper) (x .least) (x .greatest)
-    (feasible-at (limitsOn s) i (omega (arith, length-map (stepsOf s) limitsOf)) (satisfiable s (passed s ok)))
+-- each step of a sheet that passes the checks has sizes, and so a line
+pub each-step-has-sizes : (s : List ℕ) → Passes s → (x : ChamberLimits) → List·Memᴰ x (limitsOn s)
+    → (few : ℕ) × ((many : ℕ) × (sizesIn (chambersIn s) x ≡ Between few many))
+each-step-has-sizes s ok x m = some-sizes-in (chambersIn s) x (sound-at (chambersIn s) (unitsOf s) (limitsOn s) (bench s (passed s ok) .sound) x m)
 
 -- the walk along the chain never runs out of links to look at: looking at more gives the same refusal or the same chain
 pub the-walk-ends : (s : List ℕ) (r more : ℕ)
@@ -243,13 +245,13 @@ first-loading-left-out s t plan on off ok g all plan-room on-room off-room =
     let r = restarted s t ok g all in
     let later = total-restarted s t ok g all in
     let best = demand-3 t plan on off (r .passes) (omega (arith, r .many)) (omega (arith, r .many)) (omega (arith, r .many)) in
-    let feasible = subst (λ (ss : List Limits). FeasiblePlan ss (supportOn t)) (r .limits) (best .feasible) in
-    let fewest : (q : List ℕ) → FeasiblePlan (limitsOn s) q → total (startOf t) (supportOn t) ≤ laterTotal q =
-    λ q f. omega (arith, best .fewest q (subst (λ (ss : List Limits). FeasiblePlan ss q) (sym (r .limits)) f), later q f) in
+    let feasible = r .feasible (supportOn t) .0 (best .feasible) in
+    let fewest : (q : List ℕ) → FeasibleOn s q → total (startOf t) (supportOn t) ≤ laterTotal q =
+    λ q f. omega (arith, best .fewest q (r .feasible q .1 f), later q f) in
     record {
       some = (supportOn t, (feasible, sym (later (supportOn t) feasible)));
       fewest = fewest;
-      noStep = λ none. omega (arith, fewest [] (subst (λ (xs : List Step). FeasiblePlan (map limitsOf xs) []) (sym none) tt));
+      noStep = λ none. omega (arith, fewest [] (subst (λ xs. Throughout (Fits (chambersIn s)) (map limitsOf xs) []) (sym none) tt));
       planOver = λ h i. best .planOver (omega (arith, r .bound)) i .0;
       chartOver = λ h i. best .chartOver (omega (arith, r .bound)) i .0;
       planWithin = λ h i. best .planWithin (omega (arith, r .bound)) i .0;
@@ -262,10 +264,16 @@ pub all-units-on-at-the-start : (s plan on off : List ℕ) → Passes s → star
     → FewestLater s s plan on off (total (startOf s) (supportOn s))
 all-units-on-at-the-start s plan on off ok = first-loading-left-out s s plan on off ok (agree-itself startAt s)
 
+-- ---- edition 1
+
+-- What is promised of a sheet with chambers is promised of a sheet of edition 1 as of one chamber: what is said of its plans is what is said without chambers.
+pub edition-1-is-one-chamber : (s : List ℕ) → Passes s → isFirst s ≡ true → OneChamber s
+edition-1-is-one-chamber s ok first = single s first ok
+
 -- ---- a sheet that was written
 
 -- its length, which is the place of refusal 12, is that of a sheet with a record for each step
-pub written-length : (d bound start : ℕ) (xs : List Step) → length (sheetOf d bound start xs) ≡ sheetLength (length xs)
+pub written-length : (d bound start : ℕ) (xs : List Step) → length (sheetOf d bound start xs) ≡ sheetLength true (length xs)
 written-length d bound start xs = sheet-length d bound start xs
 
 -- Where it was written, with a reply whose refusal is 0, the first bytes of the output, as many as the reply says, are the sheet, within its limits.
@@ -290,22 +298,23 @@ written-in-order d bound start xs out handed =
     )
 
 -- Where each number is as wide as its field, which the types of `warm_write` see to, the reader says of it the refusal of the first faulty step, 6 or 7, or else the
--- same units, bound, start set and steps, tags included.
+-- same units, bound, start set and steps, tags included: all units are in one chamber, and each step has its two numbers there, and zeros for the other chambers.
 pub written-reads-back : (d bound start : ℕ) (xs : List Step) (out : List ℕ) → bound < 2 ^ 16 → AllWide xs → warmWrite d bound start xs out .0 .refusal ≡ 0
     → campaignRead (take (warmWrite d bound start xs out .0 .length) (warmWrite d bound start xs out .1))
-    ≡ unless (stepsCauses d 1 xs) (Given (record { units = d; bound = bound; start = start; steps = xs }))
+    ≡ unless (stepsCauses (chambersOf (sizesList (oneSize d))) d 1 (map widened xs))
+    (Given (record { units = d; bound = bound; start = start; chambers = sizesList (oneSize d); steps = map widened xs }))
 written-reads-back d bound start xs out narrow wide handed =
     let (bytes, l) = the-sheet d bound start xs out handed in
     ap campaignRead bytes ∙ written-reads d bound start xs (l .few) (l .some) (l .most) (l .own) narrow wide
 
 -- ---- sheets that differ only in job tags and in records off the chain
 
--- They get the same refusal of 1 to 7, or say the same but for tags, and whatever is made of that is the same.
+-- They get the same refusal of the reader, or say the same but for tags, and whatever is made of that is the same.
 pub agreeing-sheets : (s t : List ℕ) → Agree s t → readUntagged s ≡ readUntagged t
 agreeing-sheets s t g = same-read s t g
 
 -- so `warm_steps` gives the same reply, and the same list but for tags
-pub agreeing-steps : (s t : List ℕ) (out : List Step) → Agree s t
+pub agreeing-steps : (s t : List ℕ) (out : List ChamberStep) → Agree s t
     → (warmSteps s out .0 ≡ warmSteps t out .0) × (map untagged (warmSteps s out .1) ≡ map untagged (warmSteps t out .1))
 unfolding warmSteps
 agreeing-steps s t out g = let e = agreeing-sheets s t g in (alike-reply s t e (length out), alike-list s t e out)

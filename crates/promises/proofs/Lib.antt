@@ -1,6 +1,6 @@
 -- `Demands` has the theorems that were asked for: open it first. `Exactly` has the law behind demand 1. `Read` has what is known of a sheet that was read.
 -- `Steps`, `Plans`, `Charts`, `Verdicts`, `Writes` and `Listings` have the laws on each entry's answer, `Likeness` those on sheets that are read the same but for
--- tags, `Restarts` those on a sheet whose start set is replaced, and `Examples` the worked examples.
+-- tags, `Restarts` those on a sheet whose start set is replaced, `Single` that a sheet of edition 1 is the case of one chamber, and `Examples` the worked examples.
 pub mod Charts
 pub mod Demands
 pub mod Examples
@@ -10,6 +10,7 @@ pub mod Listings
 pub mod Plans
 pub mod Read
 mod Restarts
+mod Single
 pub mod Steps
 pub mod Verdicts
 pub mod Writes

@@ -6,14 +6,14 @@ use mathlib.Core.List.{List, [], _∷_, _++_, map, map-map, map-append}
 use Prim.Native.Nat.{ℕ, min}
 use lib.Dec.{ltb, leb, eqb}
 use lib.ListN.{length, length-map, drop}
-use Rattle.format.specs.declared.Step.{Step}
+use Rattle.format.specs.declared.ChamberStep.{ChamberStep}
 use Rattle.format.specs.Agreement.{untagged, withoutTags, readUntagged}
 use Rattle.format.specs.Answer.{Answer, Refused, Given, cause, unless}
-use Rattle.format.specs.Format.{limitsOf, unitsOf, boundOf, startOf}
+use Rattle.format.specs.Format.{limitsOf, unitsOf, boundOf, startOf, sizesList, sizes, chambersIn}
 use Rattle.format.specs.Reading.{stepsOf, readCauses, Campaign, campaignOf}
 use Rattle.format.proofs.Answers.{unless-same}
-use Rattle.plans.specs.Plans.{allows, isFeasible, fewest, canBeOn, canBeOff}
-use Rattle.plans.specs.Support.{findSupport}
+use Rattle.plans.specs.Plans.{isFeasible, fewest, canBeOn, canBeOff}
+use Rattle.chambers.specs.Chambers.{chambersOf, fits, supportIn}
 use Rattle.plans.specs.Switch.{total}
 use Rattle.promises.specs.Common.{limitsOn, placesCauses, fullReply}
 use Rattle.promises.specs.Plan.{fewestOn, supportOn, boundCauses, planned, warmPlan}
@@ -29,11 +29,11 @@ use Rattle.promises.proofs.Verdicts.{verdict-staged}
 -- ---- steps that are the same but for tags
 
 -- are as many
-pub untagged-many : (xs ys : List Step) → map untagged xs ≡ map untagged ys → length xs ≡ length ys
+pub untagged-many : (xs ys : List ChamberStep) → map untagged xs ≡ map untagged ys → length xs ≡ length ys
 untagged-many xs ys e = sym (length-map xs untagged) ∙ ap length e ∙ length-map ys untagged
 
 -- and have the same limits
-pub untagged-limits : (xs ys : List Step) → map untagged xs ≡ map untagged ys → map limitsOf xs ≡ map limitsOf ys
+pub untagged-limits : (xs ys : List ChamberStep) → map untagged xs ≡ map untagged ys → map limitsOf xs ≡ map limitsOf ys
 untagged-limits xs ys e = sym (map-map limitsOf untagged xs) ∙ ap (map limitsOf) e ∙ map-map limitsOf untagged ys
 
 -- ---- what is made of campaigns that are the same but for tags
@@ -61,25 +61,32 @@ module _ (s t : List ℕ) (a : withoutTags (campaignOf s) ≡ withoutTags (campa
   same-limits : limitsOn s ≡ limitsOn t
   same-limits = untagged-limits (stepsOf s) (stepsOf t) same-steps
 
+  same-sizes : sizesList (sizes s) ≡ sizesList (sizes t)
+  unfolding campaignOf
+  same-sizes = λ i. a i .chambers
+
+  same-chambers : chambersIn s ≡ chambersIn t
+  same-chambers = ap chambersOf same-sizes
+
   same-fewest : fewestOn s ≡ fewestOn t
   unfolding fewestOn
-  same-fewest = λ i. fewest allows (same-units i) (same-start i) (same-limits i)
+  same-fewest = λ i. fewest (fits (same-chambers i)) (same-units i) (same-start i) (same-limits i)
 
   same-support : supportOn s ≡ supportOn t
   unfolding supportOn
-  same-support = λ i. findSupport (same-start i) (same-limits i)
+  same-support = λ i. supportIn (same-chambers i) (same-start i) (same-limits i)
 
   same-on : onWords s ≡ onWords t
   unfolding onWords
-  same-on = λ i. canBeOn allows (same-units i) (same-bound i) (same-start i) (same-limits i)
+  same-on = λ i. canBeOn (fits (same-chambers i)) (same-units i) (same-bound i) (same-start i) (same-limits i)
 
   same-off : offWords s ≡ offWords t
   unfolding offWords
-  same-off = λ i. canBeOff allows (same-units i) (same-bound i) (same-start i) (same-limits i)
+  same-off = λ i. canBeOff (fits (same-chambers i)) (same-units i) (same-bound i) (same-start i) (same-limits i)
 
   same-accepts : (plan : List ℕ) → accepts s plan ≡ accepts t plan
   unfolding accepts
-  same-accepts plan = λ i. cond (isFeasible allows (same-limits i) plan && leb (total (same-start i) plan) (same-bound i)) 1 0
+  same-accepts plan = λ i. cond (isFeasible (fits (same-chambers i)) (same-limits i) plan && leb (total (same-start i) plan) (same-bound i)) 1 0
 
   -- past the reader: the causes that are left, and the plan
   same-plan : (places : ℕ)
@@ -133,7 +140,9 @@ module _ (s t : List ℕ) (same : readUntagged s ≡ readUntagged t) where
 
   pub alike-sizes : sizesListing s ≡ sizesListing t
   unfolding sizesListed sizesListing
-  alike-sizes = alike sizesListed sizesListed (Given (limitsOn s)) (Given (limitsOn t)) (λ n p. refl) (λ a i. sizesLines 1 (same-limits s t a i))
+  alike-sizes =
+      alike (sizesListed (chambersIn s)) (sizesListed (chambersIn t)) (Given (limitsOn s)) (Given (limitsOn t)) (λ n p. refl)
+      (λ a i. sizesLines (same-chambers s t a i) 1 (same-limits s t a i))
 
   -- of the answer of `warm_steps`, what tags play no part in
   alike-steps : {R : Type 0} (f : Answer Campaign → R) → (withoutTags (campaignOf s) ≡ withoutTags (campaignOf t) → f (Given (campaignOf s)) ≡ f (Given (campaignOf t)))
@@ -149,9 +158,9 @@ module _ (s t : List ℕ) (same : readUntagged s ≡ readUntagged t) where
   unfolding stepsReply campaignOf
   alike-reply =
       alike-steps stepsReply
-      (λ a i. record { refusal = 0; place = 0; units = same-units s t a i; steps = same-many s t a i; bound = same-bound s t a i; reserved = 0; start = same-start s t a i })
+      (λ a i. record { refusal = 0; place = 0; units = same-units s t a i; steps = same-many s t a i; bound = same-bound s t a i; reserved = 0; start = same-start s t a i; chambers = same-sizes s t a i })
 
-  pub alike-list : (out : List Step) → map untagged (stepsWritten (stepsAnswer s (length out)) out) ≡ map untagged (stepsWritten (stepsAnswer t (length out)) out)
+  pub alike-list : (out : List ChamberStep) → map untagged (stepsWritten (stepsAnswer s (length out)) out) ≡ map untagged (stepsWritten (stepsAnswer t (length out)) out)
   unfolding stepsWritten campaignOf
   alike-list out =
       alike-steps (λ x. map untagged (stepsWritten x out))

@@ -6,7 +6,7 @@ use Rattle.plans.specs.Switch.{total}
 use Rattle.format.specs.declared.Summary.{Summary}
 use Rattle.format.specs.Answer.{Answer, Refused, Given, unless}
 use Rattle.format.specs.Chain.{stepsFrom}
-use Rattle.format.specs.Format.{limitsOf, boundOf, startOf}
+use Rattle.format.specs.Format.{limitsOf, boundOf, startOf, chambersIn}
 use Rattle.format.specs.Reading.{readCauses}
 use Rattle.format.specs.Stages.{summaryOf, summaryRead}
 use Rattle.format.proofs.Answers.{unless-append, refused-whatever}
@@ -48,9 +48,10 @@ module _ (s : List ℕ) {x : Summary} (e : summaryRead s ≡ Given x) where
 -- a sheet that the reader refuses
 pub sizes-unread : (s : List ℕ) {n p : ℕ} → summaryRead s ≡ Refused n p → refusedLine n p ≡ sizesListing s
 unfolding sizesListed sizesListing
-sizes-unread s e = ap sizesListed (refused-whatever (readCauses s) (summaryOf s) (sym e) (Given (limitsOn s)))
+sizes-unread s e = ap (sizesListed (chambersIn s)) (refused-whatever (readCauses s) (summaryOf s) (sym e) (Given (limitsOn s)))
 
 -- and one that was read: the sizes of the steps along its chain
-pub sizes-read : (s : List ℕ) {x : Summary} → summaryRead s ≡ Given x → sizesLines 1 (map limitsOf (stepsFrom s 0 (x .steps))) ≡ sizesListing s
+pub sizes-read : (s : List ℕ) {x : Summary} → summaryRead s ≡ Given x
+    → sizesLines (chambersIn s) 1 (map limitsOf (stepsFrom s 0 (x .steps))) ≡ sizesListing s
 unfolding sizesListed sizesListing
-sizes-read s e = ap (λ xs. sizesLines 1 (map limitsOf xs)) (was-opened s e .steps) ∙ ap sizesListed (was-read s e (Given (limitsOn s)))
+sizes-read s e = ap (λ xs. sizesLines (chambersIn s) 1 (map limitsOf xs)) (was-opened s e .steps) ∙ ap (sizesListed (chambersIn s)) (was-read s e (Given (limitsOn s)))

@@ -1,17 +1,19 @@
--- What is known of a sheet that was read: the numbers of its summary, and its steps without their tags.
-use mathlib.Core.Path.{_≡_, sym, ap, _∙_}
+-- What is known of a sheet that was read: the numbers of its summary, and its chambers and its steps without their tags (`bench`).
+use mathlib.Core.Path.{_≡_, sym, ap, _∙_, subst}
 use mathlib.Core.List.{List, [], _∷_, map}
 use Prim.Native.Nat.{ℕ, _^_, _≤_, _<_}
 use native.Mathlib.Omega.{arith}
 use lib.ListN.{length}
 use borrow.Author.Tests.{lt-ltb, le-ltb, leb-false}
 use Rattle.units.specs.Sets.{hasUnitFrom}
-use Rattle.plans.specs.Plans.{Below}
-use Rattle.plans.specs.Switch.{Satisfiable}
-use Rattle.format.specs.declared.Step.{Step}
+use Rattle.chambers.specs.Chambers.{Chamber, sum}
+use Rattle.chambers.proofs.Bench.{Sound, Bench}
+use Rattle.chambers.proofs.Dealt.{dealt-apart, dealt-whole}
+use Rattle.format.specs.declared.ChamberStep.{ChamberStep}
+use Rattle.format.specs.declared.Header.{Header}
 use Rattle.format.specs.declared.Summary.{Summary}
 use Rattle.format.specs.Answer.{Answer, Refused, Given, unless}
-use Rattle.format.specs.Format.{limitsOf, unitsOf, boundOf, startOf}
+use Rattle.format.specs.Format.{unitLimit, limitsOf, unitsOf, boundOf, startOf, sizes, sizesList, chambersIn}
 use Rattle.format.specs.Reading.{stepsOf, readCauses}
 use Rattle.format.specs.Stages.{summaryOf, summaryRead}
 use Rattle.format.proofs.Answers.{refused-by, passed-by, none-left, all-passed, none-holds}
@@ -20,14 +22,10 @@ use Rattle.promises.specs.Common.{limitsOn, placesCauses}
 use Rattle.promises.specs.Statements.{Passes}
 
 -- steps without a fault have feasible sets, and units below d alone
-faultless-satisfiable : (d : ℕ) (xs : List Step) → Faultless d xs → Satisfiable (map limitsOf xs)
-faultless-satisfiable d [] h = tt
-faultless-satisfiable d (x ∷ xs) h = (h .1 .0, faultless-satisfiable d xs (h .1 .1))
-
-faultless-below : (d : ℕ) (xs : List Step) → Faultless d xs → Below d (map limitsOf xs)
+faultless-sound : (cs : List Chamber) (d : ℕ) (xs : List ChamberStep) → Faultless cs d xs → Sound cs d (map limitsOf xs)
 unfolding hasUnitFrom
-faultless-below d [] h = tt
-faultless-below d (x ∷ xs) h = (leb-false (2 ^ d) (x .upper) (h .0), faultless-below d xs (h .1 .1))
+faultless-sound cs d [] h = tt
+faultless-sound cs d (x ∷ xs) h = ((leb-false (2 ^ d) (x .upper) (h .1 .0), h .1 .1 .0), faultless-sound cs d xs (h .1 .1 .1))
 
 module _ (s : List ℕ) {x : Summary} (e : summaryRead s ≡ Given x) where
   pub was-opened : Opened s x
@@ -45,11 +43,21 @@ module _ (s : List ℕ) {x : Summary} (e : summaryRead s ≡ Given x) where
   pub units-are : x .header .units ≡ unitsOf s
   units-are = sym (ap (λ (y : Summary). y .header .units) (was-opened .summary))
 
-  pub satisfiable : Satisfiable (limitsOn s)
-  satisfiable = faultless-satisfiable (unitsOf s) (stepsOf s) (read-faultless s e)
+  pub all-dealt : sum (sizesList (sizes s)) ≡ unitsOf s
+  all-dealt = subst (λ (h : Header). sum (sizesList (h .sizes)) ≡ h .units) (sym (was-opened .sound .is-header)) (was-opened .sound .all-dealt)
 
-  pub uppers-below : Below (unitsOf s) (limitsOn s)
-  uppers-below = faultless-below (unitsOf s) (stepsOf s) (read-faultless s e)
+  -- its chambers have all of its units, each in one of them, and each of its steps has a feasible set
+  pub bench : Bench (unitsOf s) (chambersIn s) (limitsOn s)
+  bench =
+      record {
+        apart = dealt-apart 0 0 (sizesList (sizes s));
+        whole = dealt-whole (unitsOf s) (sizesList (sizes s)) all-dealt;
+        sound = faultless-sound (chambersIn s) (unitsOf s) (stepsOf s) (read-faultless s e);
+      }
+
+  -- and there are at most 64 units
+  pub few-units : unitsOf s ≤ unitLimit
+  few-units = subst (λ (h : Header). h .units ≤ unitLimit) (sym (was-opened .sound .is-header)) (was-opened .sound .few-units)
 
   -- past the reader, the causes that follow decide
   pub was-read : {A : Type 0} (a : Answer A) → a ≡ unless (readCauses s) a

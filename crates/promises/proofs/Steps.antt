@@ -5,7 +5,7 @@ use Prim.Native.Nat.{ℕ, _≤_, _<_}
 use native.Mathlib.Omega.{arith}
 use lib.ListN.{length, drop}
 use borrow.Author.Tests.{ltb-false}
-use Rattle.format.specs.declared.Step.{Step}
+use Rattle.format.specs.declared.ChamberStep.{ChamberStep}
 use Rattle.format.specs.declared.Summary.{Summary}
 use Rattle.format.specs.Answer.{Answer, Refused, Given, unless}
 use Rattle.format.specs.Chain.{Inside, stepsFrom}
@@ -51,7 +51,7 @@ module _ (s : List ℕ) (places : ℕ) where
           subst (λ (d : Campaign). Inside s 0 (length (d .steps)) × (length (d .steps) ≤ places)) (r .1 .0) (was-opened s (r .0) .inside, r .1 .1)
 
 -- the steps after the header, as many as the reply says, are what the list then holds
-pub filled : (s : List ℕ) (out : List Step)
+pub filled : (s : List ℕ) (out : List ChamberStep)
     → stepsFrom s 0 (stepsReply (stepsAnswer s (length out)) .steps) ++ drop (stepsReply (stepsAnswer s (length out)) .steps) out
     ≡ stepsWritten (stepsAnswer s (length out)) out
 unfolding stepsReply stepsWritten stepsFrom campaignOf

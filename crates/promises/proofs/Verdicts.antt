@@ -10,14 +10,16 @@ use lib.ListN.{length}
 use borrow.Author.Tests.{eq-eqb, ne-eqb, leb-true, le-leb}
 use Rattle.format.specs.declared.Summary.{Summary}
 use Rattle.format.specs.Answer.{Refused, Given, unless}
-use Rattle.format.specs.Format.{boundOf, startOf}
+use Rattle.format.specs.Format.{boundOf, startOf, chambersIn}
 use Rattle.format.specs.Reading.{stepsOf, readCauses}
 use Rattle.format.specs.Stages.{summaryOf, summaryRead}
 use Rattle.format.proofs.Answers.{refused-by, passed-by, none-left, unless-append, refused-whatever}
-use Rattle.plans.specs.Plans.{allows, isFeasible}
-use Rattle.plans.specs.Switch.{Allows, total}
-use Rattle.plans.proofs.AllPlans.{allows-exactly, feasible-exactly}
-use Rattle.promises.specs.Common.{limitsOn, fullReply}
+use Rattle.plans.specs.Plans.{isFeasible}
+use Rattle.plans.specs.Switch.{total}
+use Rattle.plans.proofs.AllPlans.{feasible-exactly}
+use Rattle.chambers.specs.Chambers.{Fits}
+use Rattle.chambers.proofs.Bench.{fits-exactly}
+use Rattle.promises.specs.Common.{limitsOn, fitsOn, fullReply}
 use Rattle.promises.specs.Verdict.{accepts, wordsCauses, verdictRefusals, verdictAnswer}
 use Rattle.promises.specs.Statements.{Meets}
 use Rattle.promises.proofs.Read.{many-steps, was-read}
@@ -46,7 +48,7 @@ module _ (s plan : List ℕ) where
 -- yes or no
 accepts-digit : (s plan : List ℕ) → accepts s plan ≤ 1
 unfolding accepts
-accepts-digit s plan = go (isFeasible allows (limitsOn s) plan && leb (total (startOf s) plan) (boundOf s))
+accepts-digit s plan = go (isFeasible (fitsOn s) (limitsOn s) plan && leb (total (startOf s) plan) (boundOf s))
   where
     go : (t : Bool) → cond t 1 0 ≤ 1
     go true = omega arith
@@ -56,8 +58,8 @@ accepts-digit s plan = go (isFeasible allows (limitsOn s) plan && leb (total (st
 pub accepts-exactly : (s plan : List ℕ) → accepts s plan ≡ 1 ↔ Meets s plan
 unfolding accepts
 accepts-exactly s plan =
-    let both = and-eq-true-iff (isFeasible allows (limitsOn s) plan) (leb (total (startOf s) plan) (boundOf s)) in
-    let feasible = feasible-exactly allows Allows allows-exactly (limitsOn s) plan in
+    let both = and-eq-true-iff (isFeasible (fitsOn s) (limitsOn s) plan) (leb (total (startOf s) plan) (boundOf s)) in
+    let feasible = feasible-exactly (fitsOn s) (Fits (chambersIn s)) (fits-exactly (chambersIn s)) (limitsOn s) plan in
     (λ h. let t = both .0 (one _ h) in (feasible .0 (t .0), leb-true _ _ (t .1)), λ m. ap chosen (both .1 (feasible .1 (m .0), le-leb _ _ (m .1))))
   where
     chosen : Bool → ℕ

@@ -1,6 +1,6 @@
 -- Laws on the answer of `warm_write`: the numbers of its refusals, and what is known where nothing is refused.
 use mathlib.Core.Path.{_≡_}
-use mathlib.Core.Bool.{false}
+use mathlib.Core.Bool.{true, false}
 use Prim.Native.Nat.{ℕ, _≤_, _<_}
 use native.Mathlib.Omega.{arith}
 use borrow.Author.Tests.{ltb-false, eqb-false}
@@ -21,7 +21,7 @@ pub record Limited (d start n places : ℕ) : Type 0 where
   pub most : d ≤ unitLimit
   pub own : hasUnitFrom start d ≡ false
   pub few : n ≤ recordLimit
-  pub room : sheetLength n ≤ places
+  pub room : sheetLength true n ≤ places
 
 pub limited : {A : Type 0} (d start n places : ℕ) (a : Answer A) {v : A} → unless (writeRefusals d start n places) a ≡ Given v → Limited d start n places
 unfolding writeRefusals
@@ -37,5 +37,5 @@ limited d start n places a e =
       most = ltb-false unitLimit d (units .0);
       own = foreign .0;
       few = ltb-false recordLimit n (steps .0);
-      room = ltb-false places (sheetLength n) (short .0);
+      room = ltb-false places (sheetLength true n) (short .0);
     }

@@ -1,22 +1,33 @@
--- What several entries share: the steps of a sheet without their tags, refusal 8, replies, and what an output holds.
+-- What several entries share: the steps of a sheet without their tags, feasible plans, refusal 8, replies, and what an output holds.
 use Prim.Native.Nat.{ℕ}
+use mathlib.Core.Bool.{Bool}
 use mathlib.Core.List.{List, [], _∷_, _++_, map}
 use lib.Dec.{ltb}
 use lib.ListN.{length, drop}
 use Rattle.plans.specs.declared.Limits.{Limits}
-use Rattle.plans.specs.Switch.{sized}
+use Rattle.plans.specs.Switch.{sized, Throughout}
+use Rattle.chambers.specs.Chambers.{Chamber, ChamberLimits, Fits, fits, partsOf}
 use Rattle.format.specs.Answer.{Cause, cause}
-use Rattle.format.specs.Format.{limitsOf}
+use Rattle.format.specs.Format.{chambersIn, limitsOf}
 use Rattle.format.specs.Reading.{stepsOf}
 use Rattle.promises.specs.declared.Reply.{Reply}
 
 -- the steps of a sheet, without their tags
-abbrev pub limitsOn : List ℕ → List Limits
+abbrev pub limitsOn : List ℕ → List ChamberLimits
 limitsOn s = map limitsOf (stepsOf s)
 
--- the same with the sizes of their feasible sets in the place of their two numbers: so they are decoded
-abbrev pub sizedOn : List ℕ → List Limits
-sizedOn s = map sized (limitsOn s)
+-- what they ask of one chamber, with the sizes of its feasible sets in the place of its two numbers: so they are decoded
+abbrev pub sizedIn : List ℕ → Chamber → List Limits
+sizedIn s c = map sized (partsOf c (limitsOn s))
+
+-- a feasible plan of a sheet (a fit plan, in docs/FORMAT.md): each step's set includes the lower set, lies within the upper set, and has in each chamber a number of units
+-- from that chamber's least to its greatest number
+abbrev pub FeasibleOn : List ℕ → List ℕ → Type 0
+FeasibleOn s plan = Throughout (Fits (chambersIn s)) (limitsOn s) plan
+
+-- the test of a step's set
+abbrev pub fitsOn : List ℕ → ChamberLimits → ℕ → Bool
+fitsOn s = fits (chambersIn s)
 
 -- refusal 8: a lent output has fewer places than there are steps
 abbrev pub placesCauses : List ℕ → ℕ → List Cause

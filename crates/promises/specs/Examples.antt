@@ -4,9 +4,10 @@ use Prim.Native.Nat.{ℕ}
 use mathlib.Core.Path.{_≡_}
 use mathlib.Core.List.{List, [], _∷_, _++_}
 use lib.ListN.{set, replicate}
+use Rattle.format.specs.declared.ChamberStep.{ChamberStep}
 use Rattle.format.specs.declared.Step.{Step}
-use Rattle.format.specs.Examples.{tagged, step, noStep, oneRecord, tagsAndUnused}
-use Rattle.format.specs.Writing.{sheetOf}
+use Rattle.format.specs.Examples.{tagged, step, chambered, noStep, oneRecord, tagsAndUnused, chamberHeader, chamberRecord, four, noChamberStep, twoChambers, oneOfThird, notZero}
+use Rattle.format.specs.Writing.{sheetOf, widened}
 use Rattle.promises.specs.declared.Reply.{Reply}
 use Rattle.promises.specs.declared.StepsReply.{StepsReply}
 use Rattle.promises.specs.declared.Written.{Written}
@@ -36,12 +37,24 @@ oneOfTwo start after = sheetOf 2 2 start (step 0 3 1 1 ∷ after)
 abbrev asks : ℕ → ℕ → Step
 asks lower upper = step lower upper 0 2
 
+-- Four units in chambers 1 and 3, two in each, with a bound and a start set, and two steps in which just one of each chamber must be on. The chambers without a unit ask for none
+-- and would allow seven.
+abbrev pub oneOfEach : ℕ → ℕ → List ℕ
+oneOfEach bound start = chamberHeader 4 2 1 bound (four 2 0 2 0) start ++ chamberRecord each 2 ++ chamberRecord each 0
+  where
+    each : ChamberStep
+    each = chambered 0 15 (four 1 0 1 0) (four 1 7 1 7) 0 0
+
+-- Three units, two in chamber 1 and one in chamber 3, which is full in the one step: its unit must be on. At most one of the others may be.
+abbrev pub fullChamber : List ℕ
+fullChamber = chamberHeader 3 1 1 3 (four 2 0 1 0) 0 ++ chamberRecord (chambered 0 7 (four 0 0 1 0) (four 1 0 1 0) 0 0) 0
+
 -- ---- the table
 
 -- a call of an entry on a sheet, or on what a sheet is written from, and lent memory, with its reply and what the memory holds afterwards; or the sizes of a
 -- sheet as text
 pub data Example : Type 0 where
-  steps : List ℕ → List Step → StepsReply → List Step → Example
+  steps : List ℕ → List ChamberStep → StepsReply → List ChamberStep → Example
   plan : List ℕ → List ℕ → Reply → List ℕ → Example
   chart : List ℕ → List ℕ → List ℕ → Reply → List ℕ → List ℕ → Example
   verdict : List ℕ → List ℕ → Reply → Example
@@ -63,11 +76,14 @@ All (x ∷ xs) = Holds x × All xs
 
 -- a refusal
 abbrev refusedSteps : ℕ → ℕ → StepsReply
-refusedSteps n p = record { refusal = n; place = p; units = 0; steps = 0; bound = 0; reserved = 0; start = 0 }
+refusedSteps n p = record { refusal = n; place = p; units = 0; steps = 0; bound = 0; reserved = 0; start = 0; chambers = four 0 0 0 0 }
 
--- a place of a list, with what it holds before a call
-abbrev nineStep : Step
-nineStep = tagged 9 9 9 9 9
+-- a place of a list, with what it holds before a call, and a step to be written
+abbrev nineStep : ChamberStep
+nineStep = chambered 9 9 (four 9 9 9 9) (four 9 9 9 9) 9 9
+
+abbrev writtenStep : Step
+writtenStep = tagged 9 9 9 9 9
 
 -- outputs of three and of five places
 abbrev threeNines : List ℕ
@@ -97,7 +113,7 @@ benches =
 unfoldable pub replies : List Example
 replies =
     steps [] (nineStep ∷ []) (refusedSteps 1 0) (nineStep ∷ [])
-    ∷ plan (set noStep 4 2) nines (refusedReply 2 4) nines
+    ∷ plan (set noStep 4 3) nines (refusedReply 2 4) nines
     ∷ chart (noStep ++ (0 ∷ [])) nines threeNines (refusedReply 3 24) nines threeNines
     ∷ verdict (sheetOf 2 1 0 (step 0 3 0 1 ∷ step 0 4 0 1 ∷ [])) nines (refusedReply 6 2)
     ∷ steps tagsAndUnused (nineStep ∷ []) (refusedSteps 8 2) (nineStep ∷ [])
@@ -106,8 +122,8 @@ replies =
     ∷ chart (fourRuns 3 0) threeNines nines (refusedReply 8 4) threeNines nines
     ∷ verdict (fourRuns 3 0) threeNines (refusedReply 10 4)
     ∷ verdict (fourRuns 3 0) nines (refusedReply 10 4)
-    ∷ steps tagsAndUnused (nineStep ∷ nineStep ∷ nineStep ∷ []) (record { refusal = 0; place = 0; units = 3; steps = 2; bound = 515; reserved = 0; start = 5 })
-    (tagged 2 3 1 2 4294967295 ∷ tagged 1 7 0 2 67305985 ∷ nineStep ∷ [])
+    ∷ steps tagsAndUnused (nineStep ∷ nineStep ∷ nineStep ∷ []) (record { refusal = 0; place = 0; units = 3; steps = 2; bound = 515; reserved = 0; start = 5; chambers = four 3 0 0 0 })
+    (widened (tagged 2 3 1 2 4294967295) ∷ widened (tagged 1 7 0 2 67305985) ∷ nineStep ∷ [])
     ∷ []
 
 -- Which plan it is, where several have the fewest switches. Both units wanted, in one step: the higher number joins, and stays; in two steps: the
@@ -143,8 +159,8 @@ writings =
     ∷ write 0 0 0 [] (replicate 24 9) (refusedWritten 11 0) (replicate 24 9)
     ∷ write 65 0 0 [] (replicate 24 9) (refusedWritten 11 0) (replicate 24 9)
     ∷ write 1 0 2 [] (replicate 24 9) (refusedWritten 11 0) (replicate 24 9)
-    ∷ write 1 0 0 (replicate 257 nineStep) nines (refusedWritten 11 0) nines
-    ∷ write 1 0 0 (replicate 256 nineStep) nines (refusedWritten 12 6168) nines
+    ∷ write 1 0 0 (replicate 257 writtenStep) nines (refusedWritten 11 0) nines
+    ∷ write 1 0 0 (replicate 256 writtenStep) nines (refusedWritten 12 6168) nines
     ∷ write 1 0 0 [] (replicate 23 9) (refusedWritten 12 24) (replicate 23 9)
     ∷ []
 
@@ -168,4 +184,25 @@ loadings =
     ∷ plan (fourRuns 0 7) nines (refusedReply 9 1) nines
     ∷ chart (fourRuns 0 7) nines nines (refusedReply 9 1) nines nines
     ∷ plan (sheetOf 3 0 7 []) nines (fullReply 0 0) nines
+    ∷ []
+
+-- Sheets of edition 2. Their steps, with four numbers each. One unit of each chamber: in each, the higher number, and the whole total is bounded. With units 0 and 2 on at the
+-- start and nothing to spare, these stay; with one switch to spare either chamber may use it, and so each unit can be on and off; but not both chambers, as the verdict says. Two of one
+-- chamber and none of the other are not feasible. A full chamber: its unit cannot be off. Its sizes: "1 1 2". Then refusals 13 and 14.
+unfoldable pub chamberings : List Example
+chamberings =
+    steps (twoChambers oneOfThird oneOfThird) (nineStep ∷ nineStep ∷ nineStep ∷ [])
+    (record { refusal = 0; place = 0; units = 3; steps = 2; bound = 515; reserved = 0; start = 5; chambers = four 1 0 2 0 }) (oneOfThird ∷ oneOfThird ∷ nineStep ∷ [])
+    ∷ plan (oneOfEach 2 0) threeNines (fullReply 2 0) (10 ∷ 10 ∷ 9 ∷ [])
+    ∷ plan (oneOfEach 1 0) threeNines (refusedReply 9 2) threeNines
+    ∷ chart (oneOfEach 0 5) threeNines threeNines (fullReply 0 0) (5 ∷ 5 ∷ 9 ∷ []) (10 ∷ 10 ∷ 9 ∷ [])
+    ∷ chart (oneOfEach 1 5) threeNines threeNines (fullReply 0 0) (15 ∷ 15 ∷ 9 ∷ []) (15 ∷ 15 ∷ 9 ∷ [])
+    ∷ verdict (oneOfEach 1 5) (10 ∷ 10 ∷ []) (fullReply 2 0)
+    ∷ verdict (oneOfEach 2 5) (10 ∷ 10 ∷ []) (fullReply 2 1)
+    ∷ verdict (oneOfEach 2 5) (3 ∷ 3 ∷ []) (fullReply 1 0)
+    ∷ plan fullChamber (9 ∷ []) (fullReply 1 0) (4 ∷ [])
+    ∷ chart fullChamber (9 ∷ []) (9 ∷ []) (fullReply 1 0) (7 ∷ []) (3 ∷ [])
+    ∷ sizes fullChamber (49 ∷ 32 ∷ 49 ∷ 32 ∷ 50 ∷ 10 ∷ [])
+    ∷ plan (noChamberStep 2 (four 1 0 0 0)) nines (refusedReply 13 12) nines
+    ∷ chart (twoChambers oneOfThird notZero) nines threeNines (refusedReply 14 2) nines threeNines
     ∷ []

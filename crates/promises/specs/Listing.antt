@@ -1,14 +1,14 @@
--- `list_plan`: refusals 1 to 7 and 9, or the plan that FindSupport gives, as text. `list_sizes`: refusals 1 to 7, or how many units may be on in each step.
+-- `list_plan`: refusals 1 to 7, 9, 13 and 14, or the plan that is handed out, as text. `list_sizes`: the refusals of the reader, or how many units may be on in each step.
 use Prim.Native.Nat.{ℕ, _+_}
 use mathlib.Core.List.{List, [], _∷_, _++_}
 use lib.ListN.{length}
 use Rattle.format.specs.Answer.{Answer, Refused, Given, Cause, unless}
-use Rattle.format.specs.Format.{unitsOf, boundOf, startOf}
+use Rattle.format.specs.Format.{unitsOf, boundOf, startOf, chambersIn}
 use Rattle.format.specs.Reading.{stepsOf, readCauses}
 use Rattle.units.specs.declared.Sizes.{Sizes}
 use Rattle.units.specs.declared.Sizes.the-variants.{Between, NoSet}
-use Rattle.plans.specs.declared.Limits.{Limits}
-use Rattle.plans.specs.Switch.{sizesOf, switches, total}
+use Rattle.chambers.specs.Chambers.{Chamber, ChamberLimits, sizesIn}
+use Rattle.plans.specs.Switch.{switches, total}
 use Rattle.promises.specs.Plan.{supportOn, boundCauses}
 use Rattle.promises.specs.Common.{limitsOn, written}
 use Rattle.promises.specs.Digits.{decimal, hexadecimal}
@@ -74,7 +74,7 @@ planLines d n bound start plan many = firstLine d n bound ++ stepLines 1 start p
 
 -- ---- the listing of a plan
 
--- refusals 1 to 7 and 9
+-- refusals 1 to 7, 13, 14 and 9
 unfoldable pub listingRefusals : List ℕ → List Cause
 listingRefusals s = readCauses s ++ boundCauses s
 
@@ -83,7 +83,7 @@ unfoldable pub listed : List ℕ → Answer (List ℕ) → List ℕ
 listed s (Refused n p) = refusedLine n p
 listed s (Given plan) = planLines (unitsOf s) (length (stepsOf s)) (boundOf s) (startOf s) plan (total (startOf s) plan)
 
--- the listing of the plan of any bytes: one refusal, or the plan that FindSupport gives
+-- the listing of the plan of any bytes: one refusal, or the plan that is handed out
 unfoldable pub listing : List ℕ → List ℕ
 listing s = listed s (unless (listingRefusals s) (Given (supportOn s)))
 
@@ -101,19 +101,19 @@ unfoldable pub sizesLine : ℕ → Sizes → List ℕ
 sizesLine i (Between few many) = decimal i ++ field blank few ++ field blank many ++ lineEnd
 sizesLine i NoSet = []
 
--- the lines of the steps from number i on
-unfoldable pub sizesLines : ℕ → List Limits → List ℕ
-sizesLines i [] = []
-sizesLines i (s ∷ ss) = sizesLine i (sizesOf s) ++ sizesLines (i + 1) ss
+-- the lines of the steps from number i on, of a bench with these chambers
+unfoldable pub sizesLines : List Chamber → ℕ → List ChamberLimits → List ℕ
+sizesLines cs i [] = []
+sizesLines cs i (s ∷ ss) = sizesLine i (sizesIn cs s) ++ sizesLines cs (i + 1) ss
 
 -- the text of a refusal, or of the sizes of some steps
-unfoldable pub sizesListed : Answer (List Limits) → List ℕ
-sizesListed (Refused n p) = refusedLine n p
-sizesListed (Given ss) = sizesLines 1 ss
+unfoldable pub sizesListed : List Chamber → Answer (List ChamberLimits) → List ℕ
+sizesListed cs (Refused n p) = refusedLine n p
+sizesListed cs (Given ss) = sizesLines cs 1 ss
 
--- the listing of the sizes of any bytes: one refusal of 1 to 7, or those of all steps
+-- the listing of the sizes of any bytes: one refusal of the reader, or those of all steps
 unfoldable pub sizesListing : List ℕ → List ℕ
-sizesListing s = sizesListed (unless (readCauses s) (Given (limitsOn s)))
+sizesListing s = sizesListed (chambersIn s) (unless (readCauses s) (Given (limitsOn s)))
 
 abbrev pub listSizes : List ℕ → List ℕ → ℕ × List ℕ
 listSizes s out = printed (sizesListing s) out

@@ -1,34 +1,34 @@
--- `warm_plan`: refusals 1 to 9, or the plan that FindSupport gives.
+-- `warm_plan`: refusals 1 to 9, 13 and 14, or the plan that FindSupport gives on each chamber, put together.
 use Prim.Native.Nat.{ℕ}
 use mathlib.Core.List.{List, [], _∷_, _++_}
 use lib.Dec.{ltb}
 use lib.ListN.{length}
-use Rattle.plans.specs.Plans.{allows, fewest}
-use Rattle.plans.specs.Support.{findSupport}
+use Rattle.plans.specs.Plans.{fewest}
+use Rattle.chambers.specs.Chambers.{supportIn}
 use Rattle.plans.specs.Switch.{total}
 use Rattle.format.specs.Answer.{Answer, Refused, Given, Cause, cause, unless}
-use Rattle.format.specs.Format.{unitsOf, boundOf, startOf}
+use Rattle.format.specs.Format.{unitsOf, boundOf, startOf, chambersIn}
 use Rattle.format.specs.Reading.{readCauses}
 use Rattle.promises.specs.declared.Reply.{Reply}
-use Rattle.promises.specs.Common.{limitsOn, placesCauses, written, refusedReply, fullReply}
+use Rattle.promises.specs.Common.{limitsOn, fitsOn, placesCauses, written, refusedReply, fullReply}
 
 -- the fewest switches of any feasible plan
 unfoldable pub fewestOn : List ℕ → ℕ
-fewestOn s = fewest allows (unitsOf s) (startOf s) (limitsOn s)
+fewestOn s = fewest (fitsOn s) (unitsOf s) (startOf s) (limitsOn s)
 
--- the plan that FindSupport gives
+-- the plan that FindSupport gives on each chamber, put together
 unfoldable pub supportOn : List ℕ → List ℕ
-supportOn s = findSupport (startOf s) (limitsOn s)
+supportOn s = supportIn (chambersIn s) (startOf s) (limitsOn s)
 
 -- refusal 9: the fewest switches exceed the bound
 abbrev pub boundCauses : List ℕ → List Cause
 boundCauses s = cause (ltb (boundOf s) (fewestOn s)) 9 (fewestOn s) ∷ []
 
--- refusals 1 to 9, where the output has that many places
+-- refusals 1 to 9, 13 and 14, where the output has that many places
 unfoldable pub planRefusals : List ℕ → ℕ → List Cause
 planRefusals s places = readCauses s ++ placesCauses s places ++ boundCauses s
 
--- one refusal of 1 to 9, or the plan
+-- one of these refusals, or the plan
 abbrev pub planAnswer : List ℕ → ℕ → Answer (List ℕ)
 planAnswer s places = unless (planRefusals s places) (Given (supportOn s))
 

@@ -3,17 +3,22 @@ use Prim.Native.Nat.{ℕ, _≤_, _<_}
 use mathlib.Core.Path.{_≡_}
 use mathlib.Core.Bool.{Bool}
 use mathlib.Core.Logic.{_↔_, _⊎_}
-use mathlib.Core.List.{List, []}
+use mathlib.Core.List.{List, [], _∷_, map}
 use lib.ListN.{length, getD, take}
 use Rattle.units.specs.Sets.{bit}
+use Rattle.format.specs.declared.ChamberStep.{ChamberStep}
 use Rattle.format.specs.Answer.{Cause, First}
-use Rattle.format.specs.Format.{unitsOf, boundOf, startOf}
+use Rattle.format.specs.Format.{unitsOf, boundOf, startOf, sizes, sizesList, chambersIn}
 use Rattle.format.specs.Reading.{stepsOf, readCauses}
-use Rattle.plans.specs.Support.{findSupportBy}
-use Rattle.plans.specs.Switch.{FeasiblePlan, total, laterTotal}
+use Rattle.chambers.specs.Chambers.{sizesIn, supportInBy}
+use Rattle.plans.specs.declared.Limits.{Limits}
+use Rattle.plans.specs.Plans.{allows, fewest, canBeOn, canBeOff}
+use Rattle.plans.specs.Rows.{limits}
+use Rattle.plans.specs.Support.{findSupport}
+use Rattle.plans.specs.Switch.{FeasiblePlan, sizesOf, total, laterTotal}
 use Rattle.promises.specs.declared.Reply.{Reply}
-use Rattle.promises.specs.Common.{limitsOn, written, refusedReply, fullReply}
-use Rattle.promises.specs.Plan.{supportOn, warmPlan}
+use Rattle.promises.specs.Common.{limitsOn, FeasibleOn, written, refusedReply, fullReply}
+use Rattle.promises.specs.Plan.{fewestOn, supportOn, warmPlan}
 use Rattle.promises.specs.Chart.{onWords, offWords, warmChart}
 use Rattle.promises.specs.Verdict.{warmVerdict}
 
@@ -26,13 +31,13 @@ pub record Exact {R : Type 0} (causes : List Cause) (Number : ℕ → Type 0) (r
   pub refusals : (n p : ℕ) → First causes n p → result ≡ refused n p
   pub replies : ((n p : ℕ) → First causes n p → ⊥) → result ≡ given
 
--- no cause of refusals 1 to 7 holds: the sheet passes the checks
+-- no cause of the refusals 1 to 7, 13 and 14 holds: the sheet passes the checks
 abbrev pub Passes : List ℕ → Type 0
 Passes s = (n p : ℕ) → First (readCauses s) n p → ⊥
 
 -- a plan meets the sheet: it is feasible, and its switches, counted from the start set, are within the bound
 abbrev pub Meets : List ℕ → List ℕ → Type 0
-Meets s plan = FeasiblePlan (limitsOn s) plan × (total (startOf s) plan ≤ boundOf s)
+Meets s plan = FeasibleOn s plan × (total (startOf s) plan ≤ boundOf s)
 
 -- Demand 2 on what `warm_plan` replied and left in its output: the words in the first places are the plan that FindSupport gives, and the verdict accepts them,
 -- with the total that was replied.
@@ -44,15 +49,15 @@ pub record HandedOut (s : List ℕ) (reply : Reply) (out : List ℕ) : Type 0 wh
 abbrev pub SomePlanHas : List ℕ → ℕ → ℕ → ℕ → Type 0
 SomePlanHas s i u v = (plan : List ℕ) × (Meets s plan × (bit (getD plan i 0) u ≡ v))
 
--- FindSupport's plan with an order for the ties of each step; `supportOn` is that with the house rule at every step
+-- FindSupport's plans of all chambers, put together, with an order for the ties of each step; `supportOn` is that with the house rule at every step
 abbrev pub supportBy : (ℕ → ℕ → ℕ → Bool) → List ℕ → List ℕ
-supportBy ties s = findSupportBy ties (startOf s) (limitsOn s)
+supportBy ties s = supportInBy ties (chambersIn s) (startOf s) (limitsOn s)
 
 -- Demand 3 on one sheet and lent outputs, where `best` is the total of FindSupport's plan.
 pub record FewestAndExact (s plan on off : List ℕ) (best : ℕ) : Type 0 where
   -- the plan that is handed out meets all set and number limits, and every plan that meets them has at least `best` switches
-  pub feasible : FeasiblePlan (limitsOn s) (supportOn s)
-  pub fewest : (other : List ℕ) → FeasiblePlan (limitsOn s) other → best ≤ total (startOf s) other
+  pub feasible : FeasibleOn s (supportOn s)
+  pub fewest : (other : List ℕ) → FeasibleOn s other → best ≤ total (startOf s) other
   -- plan and chart refuse the sheet for its bound if that number is above it, and the place is that number
   pub planOver : boundOf s < best → warmPlan s plan ≡ (refusedReply 9 best, plan)
   pub chartOver : boundOf s < best → warmChart s on off ≡ (refusedReply 9 best, (on, off))
@@ -71,11 +76,31 @@ pub record FewestAndExact (s plan on off : List ℕ) (best : ℕ) : Type 0 where
 pub record FewestLater (s t plan on off : List ℕ) (best : ℕ) : Type 0 where
   -- `best` is the least that is counted so: some feasible plan of s has so many switches from its second step on, and no feasible plan of s has fewer;
   -- without a step it is 0
-  pub some : (p : List ℕ) × (FeasiblePlan (limitsOn s) p × (laterTotal p ≡ best))
-  pub fewest : (other : List ℕ) → FeasiblePlan (limitsOn s) other → best ≤ laterTotal other
+  pub some : (p : List ℕ) × (FeasibleOn s p × (laterTotal p ≡ best))
+  pub fewest : (other : List ℕ) → FeasibleOn s other → best ≤ laterTotal other
   pub noStep : stepsOf s ≡ [] → best ≡ 0
   -- plan and chart of t report it: as the place of refusal 9 if it is above the bound, and else as their total
   pub planOver : boundOf s < best → warmPlan t plan .0 ≡ refusedReply 9 best
   pub chartOver : boundOf s < best → warmChart t on off .0 ≡ refusedReply 9 best
   pub planWithin : best ≤ boundOf s → warmPlan t plan .0 ≡ fullReply best 0
   pub chartWithin : best ≤ boundOf s → warmChart t on off .0 ≡ fullReply best 0
+
+-- ---- edition 1
+
+-- a step as one chamber has it: with the two numbers of its first chamber
+abbrev pub firstLimits : ChamberStep → Limits
+firstLimits x = limits (x .lower) (x .upper) (getD (x .least) 0 0) (getD (x .greatest) 0 0)
+
+abbrev pub oneLimits : List ℕ → List Limits
+oneLimits s = map firstLimits (stepsOf s)
+
+-- A sheet of edition 1 is the case of one chamber: all of its units are in the first, and what is said of its feasible plans, of the fewest switches, of the plan that is handed
+-- out, of the chart and of sizes is said without chambers, by the definitions of `plans`.
+pub record OneChamber (s : List ℕ) : Type 0 where
+  pub chambers : sizesList (sizes s) ≡ unitsOf s ∷ 0 ∷ 0 ∷ 0 ∷ []
+  pub feasible : (plan : List ℕ) → FeasibleOn s plan ↔ FeasiblePlan (oneLimits s) plan
+  pub fewest : fewestOn s ≡ fewest allows (unitsOf s) (startOf s) (oneLimits s)
+  pub support : supportOn s ≡ findSupport (startOf s) (oneLimits s)
+  pub on : onWords s ≡ canBeOn allows (unitsOf s) (boundOf s) (startOf s) (oneLimits s)
+  pub off : offWords s ≡ canBeOff allows (unitsOf s) (boundOf s) (startOf s) (oneLimits s)
+  pub sizes : map (sizesIn (chambersIn s)) (limitsOn s) ≡ map sizesOf (oneLimits s)

@@ -1,5 +1,6 @@
 -- `warm_write`: refusals 11 and 12, or the bytes of a sheet.
 use Prim.Native.Nat.{ℕ}
+use mathlib.Core.Bool.{true}
 use mathlib.Core.List.{List, [], _∷_}
 use lib.Dec.{ltb, eqb}
 use lib.ListN.{length}
@@ -19,7 +20,7 @@ writeRefusals d start n places =
     ∷ cause (ltb unitLimit d) 11 0
     ∷ cause (hasUnitFrom start d) 11 0
     ∷ cause (ltb recordLimit n) 11 0
-    ∷ cause (ltb places (sheetLength n)) 12 (sheetLength n)
+    ∷ cause (ltb places (sheetLength true n)) 12 (sheetLength true n)
     ∷ []
 
 -- one refusal of 11 and 12, or the bytes of the sheet

@@ -11,6 +11,7 @@ pub struct StepsReply {
     pub bound: u32,
     pub reserved: u32,
     pub start: u64,
+    pub chambers: [u32; 4],
 }
 
 // What `warm_plan`, `warm_chart` and `warm_verdict` reply. Where refusal is not 0, it is a refusal with its place, and the other numbers are 0.

@@ -3,9 +3,8 @@ use mathlib.Core.Path.{_≡_, ap, subst}
 use mathlib.Core.List.{List, [], _∷_}
 use Prim.Native.Nat.{ℕ, suc, _+_, _-_, _≤_, _<_}
 use native.Mathlib.Omega.{arith}
-use lib.ListN.{length}
-use Rattle.format.specs.Chain.{Inside, stepsFrom}
-use Rattle.format.specs.Format.{nextOf, stepOf, recordOffset}
+use Rattle.format.specs.Chain.{Within, Inside, stepsFrom}
+use Rattle.format.specs.Format.{nextOf, stepOf}
 
 pub record Along (s : List ℕ) (n at i : ℕ) : Type 0 where
   pub within : i ≤ n
@@ -15,7 +14,8 @@ pub along-begun : (s : List ℕ) (n : ℕ) → Inside s 0 n → Along s n 0 0
 along-begun s n h = record { within = omega arith; inside = subst (Inside s 0) (omega arith) h }
 
 module _ {s : List ℕ} {n at i : ℕ} (g : Along s n at i) (more : i < n) where
-  pub inside-now : (recordOffset (at + 1) ≤ length s) × ((recordOffset (nextOf s at + 1) ≤ length s) × Inside s (nextOf s at) (n - (i + 1)))
+  -- there is a next record; this one and that one lie whole within the sheet, and so do those after it
+  pub inside-now : Within s at × (((0 < nextOf s at) × Within s (nextOf s at)) × Inside s (nextOf s at) (n - (i + 1)))
   unfolding Inside
   inside-now =
       let left : n - i ≡ suc (n - (i + 1)) = omega arith in

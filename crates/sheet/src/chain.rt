@@ -1,6 +1,7 @@
 // The walk along the chain of records: refusals 4 and 5, or the number of steps.
 use super::Sheet;
 use super::record::follow;
+use super::record::is_first;
 use format::Refusal;
 ghost use mathlib.Core.Path.{_≡_};
 ghost use mathlib.Core.Bool.{cond};
@@ -8,7 +9,7 @@ ghost use Prim.Native.Nat.{_≤_, _<_};
 ghost use lib.ListN.{length};
 ghost use Rattle.units.specs.Sets.{insert};
 ghost use Rattle.format.specs.Stages.{chainRead};
-ghost use Rattle.format.specs.Format.{sheetLength, recordLimit};
+ghost use Rattle.format.specs.Format.{sheetLength, recordLimit, isFirst};
 ghost use Rattle.sheet.specs.Told.{chainTold};
 ghost use Rattle.sheet.specs.Walking.{isMet, onto};
 
@@ -71,14 +72,15 @@ impl Walk {
 
 // How many records are on the chain of a sheet that has `records` records, or the refusal of the first link that leads astray.
 pub fn walk_chain(s: &[u8], records: usize) -> ChainAnswer
-    requires { ⌜ length (now s) ≡ sheetLength records ⌝ }
+    requires { ⌜ length (now s) ≡ sheetLength (isFirst (now s)) records ⌝ }
     requires { ⌜ records ≤ recordLimit ⌝ }
     ensures { λ r. ⌜ chainTold r ≡ chainRead (now (s .entry)) records ⌝ }
 {
+    let first = is_first(s);
     let mut walk = Sheet::open_walk();
     'walk: loop {
         let holder = walk.at;
-        let next = follow(s, holder);
+        let next = follow(s, first, holder);
         if next == 0 {
             return ChainAnswer::Ended(walk.steps as u32);
         }

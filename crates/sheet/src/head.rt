@@ -1,21 +1,27 @@
-// The header: refusals 1 to 3, or its numbers.
+// The header: refusals 1 to 3 and 13, or its numbers.
 use super::Sheet;
 use super::numbers::byte_at;
 use super::numbers::u16_at;
 use super::numbers::u32_at;
 use super::numbers::u64_at;
+use super::record::is_first;
+use super::record::sheet_length;
+use format::ChamberSizes;
 use format::Header;
 use format::Refusal;
 ghost use mathlib.Core.Path.{_≡_};
-ghost use Prim.Native.Nat.{_≤_};
+ghost use mathlib.Core.Bool.{not, _&&_};
+ghost use Prim.Native.Nat.{_≤_, _<_};
+ghost use lib.Dec.{eqb};
 ghost use lib.ListN.{length};
+ghost use Rattle.chambers.specs.Chambers.{sum};
 ghost use Rattle.format.specs.Answer.{Given, unless};
-ghost use Rattle.format.specs.Format.{letters, lettersOf, headerSize, header};
-ghost use Rattle.format.specs.Reading.{same, headerCauses};
+ghost use Rattle.format.specs.Format.{letters, lettersOf, headerSize, unitLimit, isFirst, unitsOf, reservedOf, sizes, sizesList, header};
+ghost use Rattle.format.specs.Reading.{same, isEdition, headerCauses};
 ghost use Rattle.format.specs.Stages.{headerRead};
 ghost use Rattle.sheet.specs.Told.{headerTold};
 
-// What the header says: a refusal of 1 to 3, or its numbers.
+// What the header says: a refusal of 1 to 3 or 13, or its numbers.
 pub enum HeaderAnswer {
     Refused(Refusal),
     Good(Header),
@@ -39,7 +45,61 @@ fn has_letters(s: &[u8]) -> bool
     s[3] == letters[3]
 }
 
-// The numbers of a header that is whole, or refusal 3.
+// Whether there is such an edition.
+fn is_edition(e: u64) -> bool
+    ensures { λ r. ⌜ r ≡ isEdition e ⌝ }
+{
+    if e == Sheet::FIRST_EDITION {
+        return true;
+    }
+    e == Sheet::SECOND_EDITION
+}
+
+// Whether the bytes that are zero in the first edition are not, in a sheet of that edition.
+fn has_reserved(s: &[u8], first: bool) -> bool
+    requires { ⌜ headerSize ≤ length (now s) ⌝ }
+    ensures { λ r. ⌜ r ≡ (first && not (eqb (reservedOf (now (s .entry))) 0)) ⌝ }
+{
+    if first {
+        return u32_at(s, Sheet::CHAMBERS_AT) != 0;
+    }
+    false
+}
+
+// How many units each chamber has; in the first edition all units, whose number is handed in, are in the first chamber.
+fn read_sizes(s: &[u8], first: bool, units: u64) -> ChamberSizes
+    requires { ⌜ headerSize ≤ length (now s) ⌝ }
+    requires { ⌜ first ≡ isFirst (now s) ⌝ }
+    requires { ⌜ units ≡ unitsOf (now s) ⌝ }
+    requires { ⌜ units ≤ unitLimit ⌝ }
+    ensures { λ r. ⌜ r ≡ sizes (now (s .entry)) ⌝ }
+    ensures { λ r. ⌜ (r .first < 256) × ((r .second < 256) × ((r .third < 256) × (r .fourth < 256))) ⌝ }
+{
+    if first {
+        return ChamberSizes {
+            first: units as u32,
+            second: 0,
+            third: 0,
+            fourth: 0,
+        };
+    }
+    ChamberSizes {
+        first: byte_at(s, Sheet::CHAMBERS_AT) as u32,
+        second: byte_at(s, Sheet::CHAMBERS_AT + 1) as u32,
+        third: byte_at(s, Sheet::CHAMBERS_AT + 2) as u32,
+        fourth: byte_at(s, Sheet::CHAMBERS_AT + 3) as u32,
+    }
+}
+
+// How many units all chambers have together.
+fn together(z: ChamberSizes) -> u64
+    requires { ⌜ (z .first < 256) × ((z .second < 256) × ((z .third < 256) × (z .fourth < 256))) ⌝ }
+    ensures { λ r. ⌜ r ≡ sum (sizesList z) ⌝ }
+{
+    (z.first + z.second + z.third + z.fourth) as u64
+}
+
+// The numbers of a header that is whole, or refusal 3 or 13.
 fn read_numbers(s: &[u8]) -> HeaderAnswer
     requires { ⌜ headerSize ≤ length (now s) ⌝ }
     ensures { λ r. ⌜ headerTold r ≡ unless (headerCauses (now (s .entry))) (Given (header (now (s .entry)))) ⌝ }
@@ -64,10 +124,18 @@ fn read_numbers(s: &[u8]) -> HeaderAnswer
             place: Sheet::RECORDS_AT as u32,
         });
     }
-    if u32_at(s, Sheet::RESERVED_AT) != 0 {
+    let first = is_first(s);
+    if has_reserved(s, first) {
         return HeaderAnswer::Refused(Refusal {
             number: 3,
-            place: Sheet::RESERVED_AT as u32,
+            place: Sheet::CHAMBERS_AT as u32,
+        });
+    }
+    let sizes = read_sizes(s, first, units);
+    if together(sizes) != units {
+        return HeaderAnswer::Refused(Refusal {
+            number: 13,
+            place: Sheet::CHAMBERS_AT as u32,
         });
     }
     let start = u64_at(s, Sheet::START_AT);
@@ -77,7 +145,7 @@ fn read_numbers(s: &[u8]) -> HeaderAnswer
             place: Sheet::START_AT as u32,
         });
     }
-    if s.len() != Sheet::RECORD_SIZE * (records as usize + 1) {
+    if s.len() != sheet_length(first, records as usize) {
         return HeaderAnswer::Refused(Refusal {
             number: 3,
             place: Sheet::HEADER_SIZE as u32,
@@ -88,6 +156,7 @@ fn read_numbers(s: &[u8]) -> HeaderAnswer
         records: records as u32,
         bound: u16_at(s, Sheet::BOUND_AT) as u32,
         start,
+        sizes,
     })
 }
 
@@ -113,7 +182,7 @@ pub fn read_header(s: &[u8]) -> HeaderAnswer
             place: 0,
         });
     }
-    if byte_at(s, Sheet::EDITION_AT) != Sheet::EDITION {
+    if !is_edition(byte_at(s, Sheet::EDITION_AT)) {
         return HeaderAnswer::Refused(Refusal {
             number: 2,
             place: Sheet::EDITION_AT as u32,

@@ -1,13 +1,14 @@
 // The reader of campaign sheets, which gives for any bytes either one refusal or what the sheet says, and the decoder of a sheet that was read.
 // specs/Reading.antt of `format` is the definition that the reader is proved to equal.
 //
-// The modules follow the data: numbers out of bytes, the header, the chain of records, one record as a step, the open sheet, which lends the bytes to
-// those, and the steps as words for the planner. Nothing here is an open entry of the library.
+// The modules follow the data: numbers out of bytes, the header, the chain of records, one record as a step, what it asks of the chambers, the open sheet, which lends
+// the bytes to those, and the steps as words for the planner. Nothing here is an open entry of the library.
 pub mod chain;
 pub mod decode;
 pub mod head;
 pub mod numbers;
 pub mod open;
+pub mod parts;
 pub mod record;
 pub mod steps;
 
@@ -35,12 +36,16 @@ impl<'a> Sheet<'a> {
     // The letters that a sheet begins with.
     pub const LETTERS: [u8; 4] = *b"WARM";
 
-    // The edition of the format.
-    pub const EDITION: u64 = 1;
-    // Bytes of the header and of a record.
+    // The editions of the format.
+    pub const FIRST_EDITION: u64 = 1;
+
+    pub const SECOND_EDITION: u64 = 2;
+    // Bytes of the header, and of a record of the first edition and of the second.
     pub const HEADER_SIZE: usize = 24;
 
     pub const RECORD_SIZE: usize = 24;
+
+    pub const CHAMBER_RECORD_SIZE: usize = 32;
     // The most units and the most records.
     pub const UNIT_LIMIT: u64 = 64;
 
@@ -56,21 +61,30 @@ impl<'a> Sheet<'a> {
 
     pub const BOUND_AT: usize = 10;
 
-    pub const RESERVED_AT: usize = 12;
+    pub const CHAMBERS_AT: usize = 12;
 
     pub const START_AT: usize = 16;
-    // And those of a record, of which the first is the lower set.
+    // And those of a record, of which the first is the lower set. Some lie elsewhere in the second edition.
     pub const UPPER_AT: usize = 8;
 
     pub const LEAST_AT: usize = 16;
 
     pub const GREATEST_AT: usize = 17;
 
+    pub const CHAMBER_GREATEST_AT: usize = 20;
+
     pub const NEXT_AT: usize = 18;
 
+    pub const CHAMBER_NEXT_AT: usize = 24;
+
+    pub const RESERVED_AT: usize = 26;
+
     pub const TAG_AT: usize = 20;
-    // Bytes of the longest sheet.
-    pub const LONGEST: usize = Sheet::RECORD_SIZE * (Sheet::RECORD_LIMIT + 1);
+
+    pub const CHAMBER_TAG_AT: usize = 28;
+    // Bytes of the longest sheet, which is one of the second edition.
+    pub const LONGEST: usize = Sheet::HEADER_SIZE
+        + Sheet::CHAMBER_RECORD_SIZE * Sheet::RECORD_LIMIT;
     // Words of the steps of such a sheet, once they are decoded.
     pub const STEP_WORDS: usize = Limits::WORDS * Sheet::RECORD_LIMIT;
 

@@ -47,7 +47,7 @@ pub fn walk_opened(bytes: &[u8], header: Header) -> ReadAnswer
     walk_sheet(open_sheet(bytes, header))
 }
 
-// What header and chain say: the first refusal of 1 to 5, or the summary.
+// What header and chain say: the first refusal of 1 to 5 and 13, or the summary.
 pub fn read_chain(bytes: &[u8]) -> ReadAnswer
     ensures { λ r. ⌜ readTold r ≡ openRead (now (bytes .entry)) ⌝ }
 {
@@ -57,7 +57,7 @@ pub fn read_chain(bytes: &[u8]) -> ReadAnswer
     }
 }
 
-// What the bytes say: the first refusal of 1 to 7, or the summary.
+// What the bytes say: the first refusal of 1 to 7, 13 and 14, or the summary.
 pub fn read(bytes: &[u8]) -> ReadAnswer
     ensures { λ r. ⌜ readTold r ≡ summaryRead (now (bytes .entry)) ⌝ }
 {

@@ -1,17 +1,19 @@
 -- The words `onBySlack` and `offBySlack` are the chart (`on-charted`, `off-charted`): unit by unit they say what `cell` says of all plans. With no switch to
--- spare, or with one, that is `Exact`, and with two or more it is `Ample`.
-use mathlib.Core.Path.{_≡_, subst}
+-- spare, or with one, that is `Exact`, and with two or more it is `Ample`. Of fewer units than all below d, `offBySlack` has what the chart has of them
+-- (`off-charted-in`).
+use mathlib.Core.Path.{_≡_, ap, subst, _∙_}
 use mathlib.Core.Logic.{⊎-elim, _↔_}
-use mathlib.Core.Bool.{Bool, true, false, cond}
+use mathlib.Core.Bool.{Bool, true, false, cond, not, _&&_, _||_}
 use mathlib.Core.List.{List, [], _∷_}
 use Prim.Native.Nat.{ℕ, zero, suc, _+_, _-_, _^_, _≤_, _<_}
 use native.Mathlib.Decide.{decLt}
 use native.Mathlib.Omega.{arith}
 use borrow.Author.Tests.{lt-ltb}
+use lib.Dec.{eqb, ltb}
 use lib.ListN.{length, getD}
 use lib.Pow.{pow-mono, pow-pos}
-use Rattle.units.specs.Sets.{bit}
-use Rattle.units.proofs.Sets.{bit-above, bit-full}
+use Rattle.units.specs.Sets.{bit, union, intersection, difference, Subset, contains, meets, size}
+use Rattle.units.proofs.Sets.{bit-above, bit-cases, bit-difference, bit-full, bit-intersection, bit-le, bit-union, set-ext}
 use Rattle.plans.specs.Plans.{Below, allows, canBeOn, canBeOff}
 use Rattle.plans.specs.Rows.{stepAt}
 use Rattle.plans.specs.Support.{findSupport, tieOrder}
@@ -20,7 +22,7 @@ use Rattle.plans.specs.Switch.{Satisfiable, total}
 use Rattle.plans.proofs.AllPlans.{Shows, SomePlan, plan-below}
 use Rattle.plans.proofs.Cells.{cell, cell-on, cell-beyond}
 use Rattle.plans.proofs.Orders.{tie-ordered}
-use Rattle.tables.specs.Tables.{rowCount, held, setAt, offWord, ampleOn, ampleOff, laterAt, onAt, offAt, onBySlack, offBySlack}
+use Rattle.tables.specs.Tables.{rowCount, passing, free, held, less, setAt, rowsAt, inPlace, offWord, ampleOn, ampleOff, laterAt, onAt, offAt, onBySlack, offBySlack}
 use Rattle.tables.proofs.Exact.{on-exact, off-exact}
 use Rattle.tables.proofs.Gathering.{equal-units}
 use Rattle.tables.proofs.Runs.{run, run-feasible, run-support}
@@ -118,3 +120,61 @@ module _ (d slack start : ℕ) (ss : List Limits) (sat : Satisfiable ss) (low : 
           rw (lt-ltb 1 (suc (suc k)) (omega arith))
           (off-is d (bound (suc (suc k))) start ss low i l (ampleOff (2 ^ d - 1) (stepAt ss i)) (ample-off (bound (suc (suc k))) start ss sat (omega arith) i l d)
           (λ u h e. omega (arith, ample-beyond d u (stepAt ss i) h)))
+
+  -- of fewer units than all below d, among them those on in the step, the word has what it has of all
+  off-in : (us : ℕ) → Subset us (2 ^ d - 1) → Subset (getD plan i 0) us
+      → offBySlack us slack start ss plan i ≡ intersection (offBySlack (2 ^ d - 1) slack start ss plan i) us
+  unfolding offBySlack offAt offWord ampleOff held setAt
+  off-in us h k = go (ltb 1 slack)
+    where
+      t : ℕ
+      t = getD plan i 0
+
+      test : ℕ → Bool
+      test b =
+          (less (stepAt ss i) t && (not (eqb slack 0) || contains (laterAt start ss plan (suc i) .dispensable) b))
+          || meets (inPlace (eqb slack 0) (rowsAt start ss plan (suc i)) (laterAt start ss plan (suc i)) b) (free (stepAt ss i) t)
+
+      off : ℕ
+      off = passing rowCount (difference t (stepAt ss i .lower)) test
+
+      on-before : (u : ℕ) → bit off u ≤ bit t u
+      on-before u =
+          ⊎-elim (λ e. omega arith) (λ e. let (a, (b, c)) = bit-passing rowCount _ test u .0 e in omega (arith, in-difference _ _ u .0 b)) (bit-cases off u)
+
+      few-left : ℕ
+      few-left = cond (ltb (stepAt ss i .least) (size (stepAt ss i .upper))) (stepAt ss i .lower) (stepAt ss i .upper)
+
+      go : (many : Bool) → cond many (difference us few-left) (union (difference us t) off)
+          ≡ intersection (cond many (difference (2 ^ d - 1) few-left) (union (difference (2 ^ d - 1) t) off)) us
+      go true =
+          set-ext (difference us few-left) (intersection (difference (2 ^ d - 1) few-left) us)
+          (λ u.
+          omega (
+            arith,
+            h u,
+            bit-le (2 ^ d - 1) u,
+            bit-difference us few-left u,
+            bit-difference (2 ^ d - 1) few-left u,
+            bit-intersection (difference (2 ^ d - 1) few-left) us u,
+          ))
+      go false =
+          set-ext (union (difference us t) off) (intersection (union (difference (2 ^ d - 1) t) off) us)
+          (λ u.
+          omega (
+            arith,
+            h u,
+            k u,
+            on-before u,
+            bit-le (2 ^ d - 1) u,
+            bit-difference us t u,
+            bit-union (difference us t) off u,
+            bit-difference (2 ^ d - 1) t u,
+            bit-union (difference (2 ^ d - 1) t) off u,
+            bit-intersection (union (difference (2 ^ d - 1) t) off) us u,
+          ))
+
+  -- so of these it has what the chart has of them
+  pub off-charted-in : (us : ℕ) → Subset us (2 ^ d - 1) → Subset (getD plan i 0) us
+      → offBySlack us slack start ss plan i ≡ intersection (getD (canBeOff allows d (bound slack) start ss) i 0) us
+  off-charted-in us h k = off-in us h k ∙ ap (λ (x : ℕ). intersection x us) off-charted

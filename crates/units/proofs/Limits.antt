@@ -84,11 +84,6 @@ module _ (lower upper least greatest : ℕ) where
       (λ h o. (λ t. let (x, (f, is)) = of-size h low (omega arith) o in (x, f), λ w. refl))
       (λ none. (λ t. absurd (false≢true t), λ (x, f). absurd (none x f)))
 
-  pub some-sizes : hasFeasible lower upper least greatest ≡ true → (a : ℕ) × ((b : ℕ) × (feasibleSizes lower upper least greatest ≡ Between a b))
-  unfolding hasFeasible
-  some-sizes =
-      either-way (λ z. hasSet z ≡ true → (a : ℕ) × ((b : ℕ) × (z ≡ Between a b))) (λ h o t. (low, (high, refl))) (λ none t. absurd (false≢true t))
-
   -- limits that pass four tests allow some set
   pub fits : Subset lower upper → least ≤ greatest → size lower ≤ greatest → least ≤ size upper → hasFeasible lower upper least greatest ≡ true
   fits h p q r = let (x, (f, is)) = of-size h low (omega arith) (omega (arith, size-mono lower upper h)) in some-feasible .1 (x, f)

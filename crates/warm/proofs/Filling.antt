@@ -6,18 +6,18 @@ use native.Mathlib.Omega.{arith}
 use mathlib.Core.List.{List, [], _∷_, _++_}
 use lib.ListN.{length, set, drop, length-set, length-append}
 use lib.Seq.{set-at, append-snoc}
-use Rattle.format.specs.declared.Step.{Step}
-use Rattle.format.specs.Chain.{Inside, stepsFrom}
-use Rattle.format.specs.Format.{nextOf, stepOf, recordOffset}
+use Rattle.format.specs.declared.ChamberStep.{ChamberStep}
+use Rattle.format.specs.Chain.{Within, Inside, stepsFrom}
+use Rattle.format.specs.Format.{nextOf, stepOf}
 
 module _ (s : List ℕ) where
   -- what t turns make of the list, where the first of them reads the record after record j and writes its step at place i
-  abbrev pub filling : ℕ → ℕ → ℕ → List Step → List Step
+  abbrev pub filling : ℕ → ℕ → ℕ → List ChamberStep → List ChamberStep
   filling zero j i xs = xs
   filling (suc t) j i xs = filling t (nextOf s j) (i + 1) (set xs i (stepOf s (nextOf s j)))
 
   -- they write the steps of t records, and leave what stands before and after those
-  pub fills : (t j i : ℕ) (done rest : List Step) → length done ≡ i → t ≤ length rest → filling t j i (done ++ rest) ≡ done ++ (stepsFrom s j t ++ drop t rest)
+  pub fills : (t j i : ℕ) (done rest : List ChamberStep) → length done ≡ i → t ≤ length rest → filling t j i (done ++ rest) ≡ done ++ (stepsFrom s j t ++ drop t rest)
   unfolding stepsFrom
   fills zero j i done rest e l = refl
   fills (suc t) j i done [] e l = absurd (not-suc-le-zero l)
@@ -27,13 +27,13 @@ module _ (s : List ℕ) where
       ∙ fills t (nextOf s j) (i + 1) (done ++ (x ∷ [])) rest (length-append done (x ∷ []) ∙ ap (λ (k : ℕ). k + 1) e) (le-of-suc-le-suc l)
       ∙ append-snoc done x (stepsFrom s (nextOf s j) t ++ drop t rest)
 
-  module _ (n : ℕ) (ys : List Step) where
+  module _ (n : ℕ) (ys : List ChamberStep) where
     -- where the loop stands, with `left` turns to go: record j is the last one read, and the list is xs. What the turns to go make of xs is what the contract says
     pub record Turn : Type 0 where
       pub left : ℕ
       pub i : ℕ
       pub j : ℕ
-      pub xs : List Step
+      pub xs : List ChamberStep
       pub count : i + left ≡ n
       pub same : length xs ≡ length ys
       pub inside : Inside s j left
@@ -50,7 +50,7 @@ module _ (s : List ℕ) where
     none-left x l = omega (arith, x .count)
 
     -- what a turn asks: both records that it reads lie within the sheet
-    pub reads : (x : Turn) → x .i < n → (recordOffset (x .j + 1) ≤ length s) × ((recordOffset (nextOf s (x .j) + 1) ≤ length s) × Inside s (nextOf s (x .j)) (x .left - 1))
+    pub reads : (x : Turn) → x .i < n → Within s (x .j) × (((0 < nextOf s (x .j)) × Within s (nextOf s (x .j))) × Inside s (nextOf s (x .j)) (x .left - 1))
     unfolding Inside
     reads x l = subst (Inside s (x .j)) (one-left x l) (x .inside)
 

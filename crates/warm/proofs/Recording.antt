@@ -1,5 +1,6 @@
 -- The loop of `warm_write` in lists: what it begins with, what its turns make of the output, and where it stands between two turns.
 use mathlib.Core.Path.{_≡_, refl, sym, ap, ap₂, _∙_}
+use mathlib.Core.Bool.{true}
 use mathlib.Core.List.{List, _∷_, _++_}
 use Prim.Native.Nat.{ℕ, _+_, _-_, _/_, _≤_, _<_}
 use native.Mathlib.Nat.{zero-add}
@@ -24,13 +25,13 @@ use Rattle.writer.proofs.Places.{sets-append}
 
 -- the output with the records of the first m steps in their places
 abbrev pub recorded : ℕ → List Step → List ℕ → List ℕ
-recorded m xs zs = sets zs (recordOffset 1) (recordsAfter 0 m (take m xs))
+recorded m xs zs = sets zs (recordOffset true 1) (recordsAfter 0 m (take m xs))
 
 -- m records are to be put: no more than there are steps, and the output zs, which is as long as ys, has room for them
 pub record Ready (xs : List Step) (ys zs : List ℕ) (m : ℕ) : Type 0 where
   pub few : m ≤ length xs
   pub small : m ≤ recordLimit
-  pub room : 0 < m → sheetLength m ≤ length ys
+  pub room : 0 < m → sheetLength true m ≤ length ys
   pub same : length zs ≡ length ys
 
 module _ (d bound start : ℕ) (xs : List Step) (ys : List ℕ) (r : Written) (zs : List ℕ) where
@@ -57,7 +58,7 @@ module _ (d bound start : ℕ) (xs : List Step) (ys : List ℕ) {r : Written} {z
   found = lengthAnswer d start n (length ys)
 
   abbrev m : ℕ
-  m = r .length / recordSize - 1
+  m = r .length / recordSize true - 1
 
   abbrev AsPromised : Type 0
   AsPromised = Promised d bound start xs ys r zs m
@@ -68,10 +69,10 @@ module _ (d bound start : ℕ) (xs : List Step) (ys : List ℕ) {r : Written} {z
       let b = e ∙ ap (begun header ys) a in
       let reply : r ≡ refusedWritten k p = ap (λ (y : Written × List ℕ). y .0) b in
       let list : zs ≡ ys = ap (λ (y : Written × List ℕ). y .1) b in
-      let none : m ≡ 0 = ap (λ (w : Written). w .length / recordSize - 1) reply in (
+      let none : m ≡ 0 = ap (λ (w : Written). w .length / recordSize true - 1) reply in (
         record { few = omega (arith, none); small = omega (arith, none); room = λ h. absurd (omega (arith, none)); same = ap length list },
         ap₂ {C = Written × List ℕ} (λ w l. (w, l)) reply (ap (λ (k : ℕ). recorded k xs zs) none ∙ list)
-            ∙ ap (wrote ys) (refused-whatever (writeRefusals d start n (length ys)) (sheetLength n) (sym a) (Given sheet)),
+            ∙ ap (wrote ys) (refused-whatever (writeRefusals d start n (length ys)) (sheetLength true n) (sym a) (Given sheet)),
       )
 
   given : {long : ℕ} → found ≡ Given long → AsPromised
@@ -80,18 +81,18 @@ module _ (d bound start : ℕ) (xs : List Step) (ys : List ℕ) {r : Written} {z
       let b = e ∙ ap (begun header ys) a in
       let reply : r ≡ fullWritten long = ap (λ (y : Written × List ℕ). y .0) b in
       let list : zs ≡ sets ys 0 header = ap (λ (y : Written × List ℕ). y .1) b in
-      let its-length : sheetLength n ≡ long = given-same (unless-given (writeRefusals d start n (length ys)) (Given (sheetLength n)) a) in
+      let its-length : sheetLength true n ≡ long = given-same (unless-given (writeRefusals d start n (length ys)) (Given (sheetLength true n)) a) in
       let whole : long ≡ length sheet = sym its-length ∙ sym (sheet-length d bound start xs) in
       let all : m ≡ n = omega (arith, ap (λ (w : Written). w .length) reply, its-length) in
-      let l = limited d start n (length ys) (Given (sheetLength n)) a in (
+      let l = limited d start n (length ys) (Given (sheetLength true n)) a in (
         record { few = omega (arith, all); small = omega (arith, all, l .few); room = λ h. omega (arith, all, l .room); same = ap length list ∙ length-sets ys 0 header },
         ap₂ {C = Written × List ℕ} (λ w l. (w, l)) (reply ∙ ap fullWritten whole)
             (ap₂ (λ (k : ℕ) l. recorded k xs l) all list
-            ∙ ap (λ ws. sets (sets ys 0 header) (recordOffset 1) (recordsAfter 0 n ws)) (take-length xs)
+            ∙ ap (λ ws. sets (sets ys 0 header) (recordOffset true 1) (recordsAfter 0 n ws)) (take-length xs)
             ∙ sets-append ys 0 header (recordsAfter 0 n xs)
             ∙ sets-eq sheet ys 0 (omega (arith, sheet-length d bound start xs, l .room))
             ∙ ap (λ (k : ℕ). sheet ++ drop k ys) (zero-add (length sheet)))
-            ∙ ap (wrote ys) (sym (all-passed (writeRefusals d start n (length ys)) (Given (sheetLength n)) a (Given sheet))),
+            ∙ ap (wrote ys) (sym (all-passed (writeRefusals d start n (length ys)) (Given (sheetLength true n)) a (Given sheet))),
       )
 
   pub promised : Promised d bound start xs ys r zs m
@@ -115,7 +116,7 @@ module _ (xs : List Step) (m : ℕ) (few : m ≤ length xs) (zs : List ℕ) wher
     pub ws : List ℕ
     pub count : i + left ≡ m
     pub same : length ws ≡ length zs
-    pub ends : sets ws (recordOffset (i + 1)) (recordsAfter i m (drop i (take m xs))) ≡ recorded m xs zs
+    pub ends : sets ws (recordOffset true (i + 1)) (recordsAfter i m (drop i (take m xs))) ≡ recorded m xs zs
 
   abbrev pub begin : Turn
   begin = record { left = m; i = 0; ws = zs; count = omega arith; same = refl; ends = refl }
@@ -125,20 +126,20 @@ module _ (xs : List Step) (m : ℕ) (few : m ≤ length xs) (zs : List ℕ) wher
   taken t = getD xs (t .i) noStep
 
   abbrev pub turned : Turn → List ℕ
-  turned t = sets (t .ws) (recordOffset (t .i + 1)) (recordBytes (taken t) (linkIn (t .i + 1) m))
+  turned t = sets (t .ws) (recordOffset true (t .i + 1)) (recordBytes (taken t) (linkIn (t .i + 1) m))
 
   pub onward : (t : Turn) → t .i < m
-      → sets (turned t) (recordOffset (t .i + 1 + 1)) (recordsAfter (t .i + 1) m (drop (t .i + 1) (take m xs))) ≡ recorded m xs zs
+      → sets (turned t) (recordOffset true (t .i + 1 + 1)) (recordsAfter (t .i + 1) m (drop (t .i + 1) (take m xs))) ≡ recorded m xs zs
   unfolding recordsAfter recordBytes bytesOf
   onward t l =
       let rest = drop (t .i + 1) (take m xs) in
       let bytes = recordBytes (taken t) (linkIn (t .i + 1) m) in
       let first : drop (t .i) (take m xs) ≡ taken t ∷ rest =
       drop-cons (take m xs) (t .i) noStep (omega (arith, length-take m xs)) ∙ ap₂ (λ (k : ℕ) y. y ∷ drop k (take m xs)) (sym (add-one (t .i))) (getD-take m xs (t .i) noStep l) in
-      let place : recordOffset (t .i + 1 + 1) ≡ recordOffset (t .i + 1) + length bytes = omega arith in
+      let place : recordOffset true (t .i + 1 + 1) ≡ recordOffset true (t .i + 1) + length bytes = omega arith in
       ap (λ (k : ℕ). sets (turned t) k (recordsAfter (t .i + 1) m rest)) place
-      ∙ sets-append (t .ws) (recordOffset (t .i + 1)) bytes (recordsAfter (t .i + 1) m rest)
-      ∙ ap (λ ys. sets (t .ws) (recordOffset (t .i + 1)) (recordsAfter (t .i) m ys)) (sym first)
+      ∙ sets-append (t .ws) (recordOffset true (t .i + 1)) bytes (recordsAfter (t .i + 1) m rest)
+      ∙ ap (λ ys. sets (t .ws) (recordOffset true (t .i + 1)) (recordsAfter (t .i) m ys)) (sym first)
       ∙ t .ends
 
   -- where the loop stands after a turn, with fewer turns left
@@ -149,7 +150,7 @@ module _ (xs : List Step) (m : ℕ) (few : m ≤ length xs) (zs : List ℕ) wher
         i = t .i + 1;
         ws = turned t;
         count = omega (arith, t .count);
-        same = length-sets (t .ws) (recordOffset (t .i + 1)) (recordBytes (taken t) (linkIn (t .i + 1) m)) ∙ t .same;
+        same = length-sets (t .ws) (recordOffset true (t .i + 1)) (recordBytes (taken t) (linkIn (t .i + 1) m)) ∙ t .same;
         ends = onward t l;
       }
 
@@ -161,4 +162,4 @@ module _ (xs : List Step) (m : ℕ) (few : m ≤ length xs) (zs : List ℕ) wher
   unfolding recordsAfter
   ended t l =
       let none : length (take m xs) ≤ t .i = omega (arith, length-take m xs) in
-      sym (ap (λ ys. sets (t .ws) (recordOffset (t .i + 1)) (recordsAfter (t .i) m ys)) (drop-of-length-le (take m xs) none)) ∙ t .ends
+      sym (ap (λ ys. sets (t .ws) (recordOffset true (t .i + 1)) (recordsAfter (t .i) m ys)) (drop-of-length-le (take m xs) none)) ∙ t .ends

@@ -1,16 +1,13 @@
-// The verdict on a plan made elsewhere: refusals 1 to 7 and 10, or yes or no and the plan's total.
+// The verdict on a plan made elsewhere: refusals 1 to 7, 10, 13 and 14, or yes or no and the plan's total.
 use super::refused;
-use campaign::check_read;
+use campaign::check::check_read;
 use format::Summary;
 use promises::Reply;
 use sheet::ReadAnswer;
-use sheet::Sheet;
 ghost use mathlib.Core.Path.{_≡_};
 ghost use mathlib.Core.Bool.{cond, _&&_};
 ghost use lib.Dec.{leb};
-ghost use Prim.Native.Nat.{_*_, _≤_};
 ghost use lib.ListN.{length};
-ghost use Rattle.plans.specs.Rows.{rowSize};
 ghost use Rattle.format.specs.Answer.{Given};
 ghost use Rattle.format.specs.Format.{startOf};
 ghost use Rattle.format.specs.Stages.{summaryRead};
@@ -31,16 +28,15 @@ fn yes_or_no(feasible: bool, total: u32, bound: u32) -> u32
     1
 }
 
-// The verdict on a plan that has a word for each step of a sheet that was read. It works in `rows`.
-fn judge(sheet: &[u8], x: Summary, rows: &mut [u64], plan: &[u64]) -> Reply
+// The verdict on a plan that has a word for each step of a sheet that was read.
+fn judge(sheet: &[u8], x: Summary, plan: &[u64]) -> Reply
     requires { ⌜ summaryRead (now sheet) ≡ Given x ⌝ }
-    requires { ⌜ rowSize * x .steps ≤ length (now rows) ⌝ }
     requires { ⌜ length (now plan) ≡ x .steps ⌝ }
     ensures { λ r.
         ⌜ r ≡ fullReply (total (startOf (now (sheet .entry))) (now (plan .entry))) (accepts (now (sheet .entry)) (now (plan .entry))) ⌝ }
 {
     let header = x.header;
-    let found = check_read(sheet, x, rows, plan);
+    let found = check_read(sheet, x, plan);
     Reply {
         refusal: 0,
         place: 0,
@@ -60,8 +56,7 @@ pub extern "C" fn warm_verdict(sheet: &[u8], plan: &[u64]) -> Reply
             if plan.len() != x.steps as usize {
                 return refused(10, x.steps);
             }
-            let mut rows = [0u64; Sheet::STEP_WORDS];
-            judge(sheet, x, &mut rows, plan)
+            judge(sheet, x, plan)
         }
     }
 }

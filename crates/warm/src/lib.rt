@@ -5,7 +5,7 @@ pub mod judging;
 pub mod planning;
 pub mod writing;
 
-use format::Step;
+use format::ChamberStep;
 use promises::Reply;
 use promises::StepsReply;
 use sheet::ReadAnswer;
@@ -42,10 +42,11 @@ fn steps_refused(number: u32, place: u32) -> StepsReply
         bound: 0,
         reserved: 0,
         start: 0,
+        chambers: [0, 0, 0, 0],
     }
 }
 
-// The reply where the list has that many places: refusals 1 to 8, or what the sheet says.
+// The reply where the list has that many places: refusals 1 to 8, 13 and 14, or what the sheet says.
 fn steps_reply(sheet: &[u8], places: usize) -> StepsReply
     ensures { λ r. ⌜ r ≡ stepsReply (stepsAnswer (now (sheet .entry)) places) ⌝ }
 {
@@ -56,6 +57,7 @@ fn steps_reply(sheet: &[u8], places: usize) -> StepsReply
                 return steps_refused(8, x.steps);
             }
             let h = x.header;
+            let z = h.sizes;
             StepsReply {
                 refusal: 0,
                 place: 0,
@@ -64,28 +66,30 @@ fn steps_reply(sheet: &[u8], places: usize) -> StepsReply
                 bound: h.bound,
                 reserved: 0,
                 start: h.start,
+                chambers: [z.first, z.second, z.third, z.fourth],
             }
         }
     }
 }
 
 // Fills the first n places of the list with the first n steps of the chain, and leaves the others.
-fn fill_steps(sheet: &[u8], steps: &mut [Step], n: usize)
+fn fill_steps(sheet: &[u8], steps: &mut [ChamberStep], n: usize)
     requires { ⌜ Inside (now sheet) 0 n × (n ≤ length (now steps)) ⌝ }
     ensures { λ _. ⌜ now (steps .exit) ≡ stepsFrom (now (sheet .entry)) 0 n ++ drop n (now (steps .entry)) ⌝ }
 {
     let mut record = 0;
     let mut i = 0;
     while i < n {
-        record = sheet::record::follow(sheet, record);
-        steps[i] = sheet::record::step_at(sheet, record);
+        record = sheet::record::next_of(sheet, record);
+        steps[i] = sheet::record::step_of(sheet, record);
         i += 1;
     }
 }
 
-// The steps of a sheet, one struct a step, into the first places of the list.
+// The steps of a sheet, one struct a step, into the first places of the list. In its first version, which had another name, a step had one least and one
+// greatest number: a caller that was compiled for that struct finds no such entry.
 #[no_mangle]
-pub extern "C" fn warm_steps(sheet: &[u8], steps: &mut [Step]) -> StepsReply
+pub extern "C" fn warm_steps_2(sheet: &[u8], steps: &mut [ChamberStep]) -> StepsReply
     ensures { λ r. ⌜ (r, now (steps .exit)) ≡ warmSteps (now (sheet .entry)) (now (steps .entry)) ⌝ }
 {
     let reply = steps_reply(sheet, steps.len());

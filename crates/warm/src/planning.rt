@@ -1,37 +1,33 @@
-// The plan: refusals 1 to 9, or FindSupport's plan and its total.
+// The plan: refusals 1 to 9, 13 and 14, or FindSupport's plans of all chambers, put together, and their total.
 use super::refused;
 use campaign::plan_read;
 use format::Summary;
 use promises::Reply;
 use sheet::ReadAnswer;
 use sheet::Sheet;
+use words::copy_words;
 ghost use mathlib.Core.Path.{_≡_};
 ghost use Prim.Native.Nat.{_*_, _≤_};
-ghost use lib.ListN.{length, take};
-ghost use lib.Seq.{sets};
+ghost use lib.ListN.{length};
 ghost use Rattle.plans.specs.Rows.{rowSize};
 ghost use Rattle.format.specs.Answer.{Given, unless};
 ghost use Rattle.format.specs.Format.{startOf};
 ghost use Rattle.format.specs.Stages.{summaryRead};
 ghost use Rattle.promises.specs.Plan.{supportOn, boundCauses, planned, warmPlan};
 
-// Copies the first n words.
-fn copy_words(from: &[u64], to: &mut [u64], n: usize)
-    requires { ⌜ n ≤ length (now from) ⌝ }
-    requires { ⌜ n ≤ length (now to) ⌝ }
-    ensures { λ _. ⌜ now (to .exit) ≡ sets (now (to .entry)) 0 (take n (now (from .entry))) ⌝ }
-{
-    let mut i = 0;
-    while i < n {
-        to[i] = from[i];
-        i += 1;
-    }
-}
-
-// Hands out the plan of a sheet that was read, where the output has a place for each step: refusal 9, or the plan. It works in `rows` and `sets`.
-fn hand_out(sheet: &[u8], x: Summary, rows: &mut [u64], sets: &mut [u64], plan: &mut [u64]) -> Reply
+// Hands out the plan of a sheet that was read, where the output has a place for each step: refusal 9, or the plan. It works in `rows`, `part` and
+// `sets`.
+fn hand_out(
+    sheet: &[u8],
+    x: Summary,
+    rows: &mut [u64],
+    part: &mut [u64],
+    sets: &mut [u64],
+    plan: &mut [u64],
+) -> Reply
     requires { ⌜ summaryRead (now sheet) ≡ Given x ⌝ }
     requires { ⌜ rowSize * x .steps ≤ length (now rows) ⌝ }
+    requires { ⌜ x .steps ≤ length (now part) ⌝ }
     requires { ⌜ x .steps ≤ length (now sets) ⌝ }
     requires { ⌜ x .steps ≤ length (now plan) ⌝ }
     ensures { λ r.
@@ -41,11 +37,12 @@ fn hand_out(sheet: &[u8], x: Summary, rows: &mut [u64], sets: &mut [u64], plan: 
         ⌝ }
 {
     let header = x.header;
-    let total = plan_read(sheet, x, rows, sets);
+    let total = plan_read(sheet, x, rows, part, sets);
     if header.bound < total {
         return refused(9, total);
     }
-    copy_words(sets, plan, x.steps as usize);
+    let n = x.steps as usize;
+    copy_words(sets, plan, n);
     Reply {
         refusal: 0,
         place: 0,
@@ -66,8 +63,9 @@ pub extern "C" fn warm_plan(sheet: &[u8], plan: &mut [u64]) -> Reply
                 return refused(8, x.steps);
             }
             let mut rows = [0u64; Sheet::STEP_WORDS];
+            let mut part = [0u64; Sheet::RECORD_LIMIT];
             let mut sets = [0u64; Sheet::RECORD_LIMIT];
-            hand_out(sheet, x, &mut rows, &mut sets, plan)
+            hand_out(sheet, x, &mut rows, &mut part, &mut sets, plan)
         }
     }
 }

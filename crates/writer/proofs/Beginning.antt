@@ -1,5 +1,6 @@
 -- Laws on how a sheet begins: a reply without a refusal says that none is given, and then the header is put.
 use mathlib.Core.Path.{_≡_, refl, sym, ap, subst, _∙_}
+use mathlib.Core.Bool.{true}
 use mathlib.Core.List.{List}
 use Prim.Native.Nat.{ℕ}
 use native.Mathlib.Omega.{arith}
@@ -11,11 +12,11 @@ use Rattle.promises.specs.Write.{writeRefusals}
 use Rattle.promises.proofs.Writes.{write-numbers}
 use Rattle.writer.specs.Begun.{lengthAnswer, replied, begun}
 
-pub not-refused : (d start n places : ℕ) → replied (lengthAnswer d start n places) .refusal ≡ 0 → lengthAnswer d start n places ≡ Given (sheetLength n)
+pub not-refused : (d start n places : ℕ) → replied (lengthAnswer d start n places) .refusal ≡ 0 → lengthAnswer d start n places ≡ Given (sheetLength true n)
 unfolding replied
 not-refused d start n places e =
-    none-holds (writeRefusals d start n places) (Given (sheetLength n))
-    (λ k p f. numbered-first Some f (write-numbers Some (λ h. omega arith) (λ h. omega arith) d start n places) (ap (λ a. replied a .refusal) (first-refuses f (Given (sheetLength n))) ∙ e))
+    none-holds (writeRefusals d start n places) (Given (sheetLength true n))
+    (λ k p f. numbered-first Some f (write-numbers Some (λ h. omega arith) (λ h. omega arith) d start n places) (ap (λ a. replied a .refusal) (first-refuses f (Given (sheetLength true n))) ∙ e))
   where
     Some : ℕ → Type 0
     Some k = k ≡ 0 → ⊥

@@ -1,5 +1,6 @@
 -- What the functions that begin a sheet give. They know how many steps there are, and not the steps.
 use Prim.Native.Nat.{ℕ}
+use mathlib.Core.Bool.{true}
 use mathlib.Core.List.{List}
 use lib.Seq.{sets}
 use Rattle.format.specs.Answer.{Answer, Refused, Given, unless}
@@ -9,7 +10,7 @@ use Rattle.promises.specs.Write.{writeRefusals, refusedWritten, fullWritten}
 
 -- one refusal of 11 and 12, or the length of the sheet, for d units, a start set, n steps and an output of so many places
 abbrev pub lengthAnswer : ℕ → ℕ → ℕ → ℕ → Answer ℕ
-lengthAnswer d start n places = unless (writeRefusals d start n places) (Given (sheetLength n))
+lengthAnswer d start n places = unless (writeRefusals d start n places) (Given (sheetLength true n))
 
 -- the reply
 unfoldable pub replied : Answer ℕ → Written

@@ -1,5 +1,5 @@
 // What is put into an output: bytes, texts and numbers, and a sheet that is written, up to the loop over its steps: refusals 11 and 12, the header, and one
-// record. specs/Writing.antt of `format` has the bytes of a sheet. Nothing here is an open entry of the library.
+// record. Sheets are written in edition 1, and specs/Writing.antt of `format` has their bytes. Nothing here is an open entry of the library.
 pub mod put;
 pub mod records;
 
@@ -7,6 +7,7 @@ use promises::Written;
 use records::put_header;
 use sheet::Sheet;
 ghost use mathlib.Core.Path.{_≡_};
+ghost use mathlib.Core.Bool.{true};
 ghost use Prim.Native.Nat.{_-_, _/_};
 ghost use lib.ListN.{length};
 ghost use Rattle.format.specs.Format.{recordSize};
@@ -42,7 +43,7 @@ fn write_reply(units: u8, start: u64, n: usize, places: usize) -> Written
     if Sheet::RECORD_LIMIT < n {
         return write_refused(11, 0);
     }
-    let length = Sheet::RECORD_SIZE * (n + 1);
+    let length = Sheet::HEADER_SIZE + Sheet::RECORD_SIZE * n;
     if places < length {
         return write_refused(12, length as u32);
     }
@@ -69,9 +70,9 @@ pub fn begin_sheet(units: u8, bound: u16, start: u64, n: usize, out: &mut [u8]) 
     reply
 }
 
-// How many records a sheet of that length has; 0 where nothing is written.
+// How many records a sheet of that length has, in edition 1; 0 where nothing is written.
 pub fn records_in(length: u32) -> usize
-    ensures { λ r. ⌜ r ≡ length / recordSize - 1 ⌝ }
+    ensures { λ r. ⌜ r ≡ length / recordSize true - 1 ⌝ }
 {
     let parts = length as usize / Sheet::RECORD_SIZE;
     if parts == 0 {

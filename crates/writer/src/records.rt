@@ -8,7 +8,8 @@ use format::Step;
 use sheet::Sheet;
 use sheet::record::record_offset;
 ghost use mathlib.Core.Path.{_≡_};
-ghost use Prim.Native.Nat.{_≤_};
+ghost use mathlib.Core.Bool.{true};
+ghost use Prim.Native.Nat.{_≤_, _<_};
 ghost use lib.ListN.{length};
 ghost use lib.Seq.{sets};
 ghost use Rattle.format.specs.Format.{headerSize, recordLimit, recordOffset, sheetLength};
@@ -33,7 +34,7 @@ pub(crate) fn put_header(units: u8, n: usize, bound: u16, start: u64, out: &mut 
 {
     let letters = Sheet::LETTERS;
     let after_letters = put_text(&letters, out, 0);
-    let after_edition = put_byte(Sheet::EDITION as u8, out, after_letters);
+    let after_edition = put_byte(Sheet::FIRST_EDITION as u8, out, after_letters);
     let after_units = put_byte(units, out, after_edition);
     let after_records = put_u16(n as u64, out, after_units);
     let after_first = put_u16(link_in(0, n), out, after_records);
@@ -44,10 +45,10 @@ pub(crate) fn put_header(units: u8, n: usize, bound: u16, start: u64, out: &mut 
 
 // Puts record j of n, and leaves all other bytes.
 pub fn put_record(x: Step, j: usize, n: usize, out: &mut [u8])
-    requires { ⌜ (j ≤ n) × ((n ≤ recordLimit) × (sheetLength n ≤ length (now out))) ⌝ }
-    ensures { λ _. ⌜ now (out .exit) ≡ sets (now (out .entry)) (recordOffset j) (recordBytes x (linkIn j n)) ⌝ }
+    requires { ⌜ (0 < j) × ((j ≤ n) × ((n ≤ recordLimit) × (sheetLength true n ≤ length (now out)))) ⌝ }
+    ensures { λ _. ⌜ now (out .exit) ≡ sets (now (out .entry)) (recordOffset true j) (recordBytes x (linkIn j n)) ⌝ }
 {
-    let after_lower = put_u64(x.lower, out, record_offset(j));
+    let after_lower = put_u64(x.lower, out, record_offset(true, j));
     let after_upper = put_u64(x.upper, out, after_lower);
     let after_least = put_byte(x.least, out, after_upper);
     let after_greatest = put_byte(x.greatest, out, after_least);

@@ -6,7 +6,7 @@ use super::tally::Tally;
 use crate::reference::replies::{write, Replies};
 use crate::reference::{units_below, Reply};
 use std::fmt::Debug;
-use warm::{Error, Step};
+use warm::{ChamberStep, Error, Step};
 
 /// Places of a buffer before and after the ones that are lent.
 const MARGIN: usize = 5;
@@ -41,7 +41,16 @@ pub fn words(places: usize) -> Output<u64> {
     Output::new(MARGIN, places, |word| word)
 }
 
-pub fn step_list(places: usize) -> Output<Step> {
+pub fn step_list(places: usize) -> Output<ChamberStep> {
+    Output::new(MARGIN, places, |word| {
+        let (least, greatest) = ((word as u32).to_le_bytes(), ((word >> 8) as u32).to_le_bytes());
+        let mut step = ChamberStep::new(word, !word, least, greatest, (word >> 16) as u32);
+        step.reserved = (word >> 24) as u32;
+        step
+    })
+}
+
+pub fn written_steps(places: usize) -> Output<Step> {
     Output::new(MARGIN, places, |word| Step::new(word, !word, word as u8, (word >> 8) as u8, (word >> 16) as u32))
 }
 
@@ -82,11 +91,13 @@ impl Judge {
     pub fn steps(&mut self, sheet: &[u8], expected: &Replies, places: usize) {
         let mut list = step_list(places);
         let got = self.with_lent_sheet(sheet, |sheet| {
-            warm::steps(sheet, list.lent())
-                .map(|said| (said.units as usize, said.bound, said.start, said.steps.to_vec()))
+            warm::steps(sheet, list.lent()).map(|said| {
+                let chambers = said.chambers.map(|units| units as usize);
+                (said.units as usize, said.bound, said.start, chambers, said.steps.to_vec())
+            })
         });
         let want = expected.steps(places);
-        let said = want.map(|sheet| (sheet.units, sheet.bound, sheet.start, sheet.steps.clone()));
+        let said = want.map(|sheet| (sheet.units, sheet.bound, sheet.start, sheet.chambers, sheet.steps.clone()));
         self.compare("steps", sheet, got, &said);
         list.check(want.map_or(&[], |sheet| &sheet.steps), "steps", sheet);
         if want.is_ok() {
@@ -146,19 +157,20 @@ impl Judge {
         }
     }
 
-    /// Writes the sheet of a campaign into an output of so many bytes. Gives what the tests' own writer makes of it, or the refusal.
+    /// Writes the sheet of a campaign of edition 1 into an output of so many bytes. Gives what the tests' own writer makes of it, or the
+    /// refusal.
     pub fn write(&mut self, campaign: &Campaign, places: usize) -> Reply<Vec<u8>> {
-        let Campaign { units, bound, start, steps } = campaign;
-        let made = campaign.bytes();
-        let mut handed_in = step_list(steps.len());
-        handed_in.lent().copy_from_slice(steps);
+        let (units, bound, start) = (campaign.units(), campaign.bound, campaign.start);
+        let (steps, made) = (campaign.written_steps(), campaign.bytes());
+        let mut handed_in = written_steps(steps.len());
+        handed_in.lent().copy_from_slice(&steps);
         let mut output = bytes(self.random.below(16), places);
-        let got = warm::write(u8::try_from(*units).unwrap(), *bound, *start, handed_in.lent(), output.lent());
+        let got = warm::write(u8::try_from(units).unwrap(), bound, start, handed_in.lent(), output.lent());
         let got = got.map(<[u8]>::to_vec);
-        let want = write(*units, *start, steps.len(), places).map(|length| made[..length].to_vec());
+        let want = write(units, start, steps.len(), places).map(|length| made[..length].to_vec());
         self.compare("write", &made, got, &want);
         output.check(want.as_deref().unwrap_or(&[]), "write", &made);
-        handed_in.check(steps, "write, the steps", &made);
+        handed_in.check(&steps, "write, the steps", &made);
         if want.is_ok() {
             self.tally.add("sheets", 1);
         }

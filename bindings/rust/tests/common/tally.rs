@@ -6,7 +6,7 @@ use std::io::Write;
 #[derive(Default)]
 pub struct Tally(BTreeMap<&'static str, u64>);
 
-const REFUSALS: [&str; 12] = [
+const REFUSALS: [&str; 14] = [
     "refusal 1",
     "refusal 2",
     "refusal 3",
@@ -19,6 +19,8 @@ const REFUSALS: [&str; 12] = [
     "refusal 10",
     "refusal 11",
     "refusal 12",
+    "refusal 13",
+    "refusal 14",
 ];
 
 impl Tally {

@@ -5,7 +5,6 @@
 //! one more unit be otherwise in the other step.
 
 use super::{feasible, warm_ups, Cells, Sheet};
-use warm::Step;
 
 /// More than any total: there is no such plan.
 const NONE: u32 = 1 << 30;
@@ -27,10 +26,10 @@ impl AllSets {
         let fewest = up_to.last().map_or(0, least);
         let mut cells = Cells::new();
         let mut after = vec![0; 1 << sheet.units];
-        for (step, up_to) in sheet.steps.iter().zip(up_to).rev() {
+        for (i, up_to) in up_to.iter().enumerate().rev() {
             let sums: Totals = up_to.iter().zip(&after).map(|(a, b)| a + b).collect();
             cells.push((0..sheet.units).map(|u| cheapest_of(&sums, u)).collect());
-            forbid(&mut after, step);
+            forbid(&mut after, sheet, i);
             go_back(&mut after);
         }
         cells.reverse();
@@ -52,20 +51,20 @@ impl AllSets {
 fn up_to_each(sheet: &Sheet) -> Vec<Totals> {
     let mut before: Totals = (0..1 << sheet.units).map(|set| warm_ups(sheet.start, set)).collect();
     let mut each = Vec::new();
-    for step in &sheet.steps {
-        if !each.is_empty() {
+    for i in 0..sheet.steps.len() {
+        if i > 0 {
             go_on(&mut before);
         }
-        forbid(&mut before, step);
+        forbid(&mut before, sheet, i);
         each.push(before.clone());
     }
     each
 }
 
-/// Takes out the sets that a step does not allow.
-fn forbid(totals: &mut [u32], step: &Step) {
+/// Takes out the sets that a step, counted from 0, does not allow.
+fn forbid(totals: &mut [u32], sheet: &Sheet, i: usize) {
     for (set, total) in totals.iter_mut().enumerate() {
-        if !feasible(step, set as u64) {
+        if !feasible(sheet.chambers, &sheet.steps[i], set as u64) {
             *total = NONE;
         }
     }

@@ -1,16 +1,18 @@
 //! The fewest warm-ups as the least cost of a flow, for sheets of any size.
 //!
-//! As many tokens as there are units run through the steps. In each step a token either takes the edge of a unit that is on, or waits in the
-//! pool of those that are off. A unit's edge lets one token through if the unit is in the upper set, and must carry one if it is in the
-//! lower set. The pool carries at least d - greatest and at most d - least tokens. From step to step a token stays with its unit or goes to
-//! the pool for nothing, and goes from the pool to a unit for a warm-up. What an edge must carry earns a bonus that outweighs all warm-ups.
+//! As many tokens as there are units run through the steps. In each step a token either takes the edge of a unit that is on, or waits in a
+//! pool of those that are off, of which each chamber has one. A unit's edge lets one token through if the unit is in the upper set, and must
+//! carry one if it is in the lower set. The pool of a chamber of k units carries at least k - greatest and at most k - least tokens. From step
+//! to step a token stays with its unit or goes to the pool of its chamber for nothing, and goes from that pool to a unit for a warm-up. What an
+//! edge must carry earns a bonus that outweighs all warm-ups.
 //!
 //! Once the cheapest flow is known, the cheapest one in which a unit's edge is the other way round differs from it by the cheapest way back
 //! from the edge's one end to the other in the residual network.
 
-use super::{has, Sheet};
+use super::{dealt, has, Sheet};
 use std::cmp::Reverse;
 use std::collections::BinaryHeap;
+use warm::CHAMBERS;
 
 /// For a token on an edge that must carry it.
 const BONUS: i64 = 1 << 20;
@@ -31,8 +33,8 @@ impl Flow {
         let mut unit_edges = Vec::new();
         let mut bonuses = 0;
         for step in &sheet.steps {
-            let into = next_layer(&mut network, &layer);
-            layer = Layer { units: into.units.iter().map(|_| network.node()).collect(), pool: network.node() };
+            let into = next_layer(&mut network, &layer, sheet);
+            layer = Layer::new(&mut network, sheet.units);
             let mut edges = vec![None; sheet.units];
             for u in (0..sheet.units).filter(|&u| has(step.upper, u)) {
                 let must = has(step.lower, u);
@@ -40,10 +42,13 @@ impl Flow {
                 edges[u] = Some(network.edge(into.units[u], layer.units[u], 1, if must { -BONUS } else { 0 }));
             }
             unit_edges.push(edges);
-            let must = (d - i64::from(step.greatest)).max(0);
-            bonuses += must;
-            network.edge(into.pool, layer.pool, must, -BONUS);
-            network.edge(into.pool, layer.pool, d - i64::from(step.least) - must, 0);
+            for c in 0..CHAMBERS {
+                let size = sheet.chambers[c] as i64;
+                let must = (size - i64::from(step.greatest[c])).max(0);
+                bonuses += must;
+                network.edge(into.pools[c], layer.pools[c], must, -BONUS);
+                network.edge(into.pools[c], layer.pools[c], size - i64::from(step.least[c]) - must, 0);
+            }
         }
         let sink = end(&mut network, &layer, d);
         let fewest = network.send(source, sink, d) + BONUS * bonuses;
@@ -78,29 +83,38 @@ impl Flow {
 /// The nodes of a step, before or after its edges.
 struct Layer {
     units: Vec<usize>,
-    pool: usize,
+    pools: [usize; CHAMBERS],
 }
 
-/// The tokens before the first step: one on each unit of the start set, the others in the pool.
+impl Layer {
+    fn new(network: &mut Network, units: usize) -> Layer {
+        Layer { units: (0..units).map(|_| network.node()).collect(), pools: [0; CHAMBERS].map(|_| network.node()) }
+    }
+}
+
+/// The tokens before the first step: one on each unit of the start set, the others in the pools.
 fn start_layer(network: &mut Network, source: usize, sheet: &Sheet) -> Layer {
-    let layer = Layer { units: (0..sheet.units).map(|_| network.node()).collect(), pool: network.node() };
+    let layer = Layer::new(network, sheet.units);
     for u in (0..sheet.units).filter(|&u| has(sheet.start, u)) {
         network.edge(source, layer.units[u], 1, 0);
     }
-    network.edge(source, layer.pool, sheet.units as i64 - i64::from(sheet.start.count_ones()), 0);
+    for (own, pool) in dealt(sheet.chambers).into_iter().zip(layer.pools) {
+        network.edge(source, pool, i64::from((own & !sheet.start).count_ones()), 0);
+    }
     layer
 }
 
-/// From a step to the next one: a warm-up goes from the pool to a unit.
-fn next_layer(network: &mut Network, from: &Layer) -> Layer {
-    let d = from.units.len();
-    let to = Layer { units: (0..d).map(|_| network.node()).collect(), pool: network.node() };
-    for u in 0..d {
-        network.edge(from.units[u], to.units[u], 1, 0);
-        network.edge(from.units[u], to.pool, 1, 0);
-        network.edge(from.pool, to.units[u], 1, 1);
+/// From a step to the next one: a warm-up goes from the pool of a chamber to a unit of it.
+fn next_layer(network: &mut Network, from: &Layer, sheet: &Sheet) -> Layer {
+    let to = Layer::new(network, sheet.units);
+    for (c, own) in dealt(sheet.chambers).into_iter().enumerate() {
+        for u in (0..sheet.units).filter(|&u| has(own, u)) {
+            network.edge(from.units[u], to.units[u], 1, 0);
+            network.edge(from.units[u], to.pools[c], 1, 0);
+            network.edge(from.pools[c], to.units[u], 1, 1);
+        }
+        network.edge(from.pools[c], to.pools[c], sheet.chambers[c] as i64, 0);
     }
-    network.edge(from.pool, to.pool, d as i64, 0);
     to
 }
 
@@ -109,7 +123,9 @@ fn end(network: &mut Network, last: &Layer, d: i64) -> usize {
     for &unit in &last.units {
         network.edge(unit, sink, 1, 0);
     }
-    network.edge(last.pool, sink, d, 0);
+    for pool in last.pools {
+        network.edge(pool, sink, d, 0);
+    }
     sink
 }
 

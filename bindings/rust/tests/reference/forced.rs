@@ -1,14 +1,20 @@
 //! The fewest warm-ups with one cell forced, by planning anew: FindSupport's total for the sheet in which the unit must be on there, or may
 //! not be. That no plan has fewer is a fact about FindSupport; the references are compared with each other.
 //!
-//! A forced unit is required (or forbidden) in one more step, which changes its rank up to that step, and no other rank. So the ranks of
-//! the sheet as it is are found once. On a tie the lower number goes first here, whatever the house rule is: the totals are the same.
+//! Only the chamber of the unit is planned anew: the plans of the others stay as they are. A forced unit is required (or forbidden) in one more
+//! step, which changes its rank up to that step, and no other rank. So the ranks of the chamber as it is are found once. On a tie the lower
+//! number goes first here, whatever the house rule is: the totals are the same.
 
-use super::support::{ban, find_support, need, rank, Rank};
+use super::support::{ban, chamber_support, need, rank, Chamber, Rank};
 use super::{has, total, warm_ups, Sheet};
 
 pub struct Forced {
-    sheet: Sheet,
+    chambers: Vec<ForcedChamber>,
+}
+
+/// One chamber, with a plan and the orders of its units.
+struct ForcedChamber {
+    chamber: Chamber,
     plan: Vec<u64>,
     fewest: u32,
     orders: Vec<Order>,
@@ -24,8 +30,8 @@ struct Cell {
 
 /// The units at a step.
 struct Order {
-    /// By unit: the next step that needs it, and the next that bans it, from 1.
-    next: Vec<(usize, usize)>,
+    /// By unit: the next step that needs it, and the next that bans it, from 1. Of another chamber's units nothing is said.
+    next: [(usize, usize); 64],
     /// First in rank first.
     ranks: Vec<Rank>,
     /// At place k, the k units that are first in rank.
@@ -33,9 +39,12 @@ struct Order {
 }
 
 impl Order {
-    fn new(sheet: &Sheet, i: usize) -> Order {
-        let next: Vec<(usize, usize)> = (0..sheet.units).map(|u| (need(sheet, i, u), ban(sheet, i, u))).collect();
-        let mut ranks: Vec<Rank> = next.iter().enumerate().map(|(u, &(need, ban))| rank(need, ban, u)).collect();
+    fn new(chamber: &Chamber, i: usize) -> Order {
+        let mut next = [(0, 0); 64];
+        for u in chamber.unit_numbers() {
+            next[u] = (need(&chamber.steps, i, u), ban(&chamber.steps, i, u));
+        }
+        let mut ranks: Vec<Rank> = chamber.unit_numbers().map(|u| rank(next[u].0, next[u].1, u)).collect();
         ranks.sort_unstable();
         let first = (0..=ranks.len()).map(|k| ranks[..k].iter().map(|rank| 1 << rank.2).sum()).collect();
         Order { next, ranks, first }
@@ -71,25 +80,36 @@ impl Order {
 
 impl Forced {
     pub fn new(sheet: &Sheet) -> Forced {
-        let plan = find_support(sheet);
-        let fewest = total(sheet.start, &plan);
-        let orders = (1..=sheet.steps.len()).map(|i| Order::new(sheet, i)).collect();
-        Forced { sheet: sheet.clone(), plan, fewest, orders }
+        Forced { chambers: Chamber::all(sheet).into_iter().map(ForcedChamber::new).collect() }
     }
 
-    /// The total of FindSupport's plan.
+    /// The total of FindSupport's plans.
     pub fn fewest(&self) -> u32 {
-        self.fewest
+        self.chambers.iter().map(|chamber| chamber.fewest).sum()
     }
 
-    /// The total of FindSupport's plan where unit `u` is forced to be on (or off) in a step, counted from 0; none if the step has no such set.
+    /// The total of FindSupport's plans where unit `u` is forced to be on (or off) in a step, counted from 0; none if the step has no such set.
     pub fn cheapest(&self, step: usize, u: usize, on: bool) -> Option<u32> {
-        if has(self.plan[step], u) == on {
+        let own = self.chambers.iter().find(|part| has(part.chamber.units, u)).unwrap();
+        Some(self.fewest() - own.fewest + own.cheapest(Cell { step, u, on })?)
+    }
+}
+
+impl ForcedChamber {
+    fn new(chamber: Chamber) -> ForcedChamber {
+        let plan = chamber_support(&chamber, |_, u| u);
+        let fewest = total(chamber.start, &plan);
+        let orders = (1..=chamber.steps.len()).map(|i| Order::new(&chamber, i)).collect();
+        ForcedChamber { chamber, plan, fewest, orders }
+    }
+
+    /// The total with a cell forced; none if the step has no such set.
+    fn cheapest(&self, cell: Cell) -> Option<u32> {
+        if has(self.plan[cell.step], cell.u) == cell.on {
             return Some(self.fewest);
         }
-        let cell = Cell { step, u, on };
-        let (lower, upper) = self.limits(step, cell);
-        let x = &self.sheet.steps[step];
+        let (lower, upper) = self.limits(cell.step, cell);
+        let x = &self.chamber.steps[cell.step];
         let some_set = lower & !upper == 0
             && lower.count_ones() <= u32::from(x.greatest)
             && upper.count_ones() >= u32::from(x.least);
@@ -97,9 +117,9 @@ impl Forced {
     }
 
     fn run(&self, cell: Cell) -> u32 {
-        let mut before = self.sheet.start;
+        let mut before = self.chamber.start;
         let mut sum = 0;
-        for i in 0..self.sheet.steps.len() {
+        for i in 0..self.chamber.steps.len() {
             let set = self.step_set(i, before, cell);
             sum += warm_ups(before, set);
             before = set;
@@ -109,7 +129,7 @@ impl Forced {
 
     /// The lower and the upper set of a step.
     fn limits(&self, i: usize, cell: Cell) -> (u64, u64) {
-        let (lower, upper) = (self.sheet.steps[i].lower, self.sheet.steps[i].upper);
+        let (lower, upper) = (self.chamber.steps[i].lower, self.chamber.steps[i].upper);
         match (i == cell.step, cell.on) {
             (false, _) => (lower, upper),
             (true, true) => (lower | 1 << cell.u, upper),
@@ -120,7 +140,7 @@ impl Forced {
     /// The set of a step after the set `before`.
     fn step_set(&self, i: usize, before: u64, cell: Cell) -> u64 {
         let (lower, upper) = self.limits(i, cell);
-        let (least, greatest) = (u32::from(self.sheet.steps[i].least), u32::from(self.sheet.steps[i].greatest));
+        let (least, greatest) = (u32::from(self.chamber.steps[i].least), u32::from(self.chamber.steps[i].greatest));
         let set = before & upper | lower;
         let many = set.count_ones();
         if many > greatest {

@@ -109,7 +109,7 @@ impl Replies {
             return Err((10, self.n() as u32));
         }
         let total = total(sheet.start, plan);
-        let all_feasible = sheet.steps.iter().zip(plan).all(|(step, &set)| feasible(step, set));
+        let all_feasible = sheet.steps.iter().zip(plan).all(|(step, &set)| feasible(sheet.chambers, step, set));
         Ok((all_feasible && total <= sheet.bound, total))
     }
 

@@ -5,10 +5,10 @@ use Rattle.all_plans.proofs.try_case.Statement.{statement}
 use Rattle.all_plans.proofs.try_case.Tie as tie
 
 abbrev Inv-loop : tie.InvT-loop
-Inv-loop case sets tallies₀ start₀ tallies start = (start ≤ sets) × (sets ≤ 16)
+Inv-loop edition case sets tallies₀ start₀ tallies start = (start ≤ sets) × (sets ≤ 16)
 
 abbrev μ-loop : tie.MeasureT-loop
-μ-loop case sets tallies₀ start₀ tallies start = sets - start
+μ-loop edition case sets tallies₀ start₀ tallies start = sets - start
 
 units-of-requires : tie.Need-units-of-requires Inv-loop μ-loop
 units-of-requires c κs = search needs

@@ -5,10 +5,10 @@ use Rattle.all_plans.proofs.try_cases.Statement.{statement}
 use Rattle.all_plans.proofs.try_cases.Tie as tie
 
 abbrev Inv-loop : tie.InvT-loop
-Inv-loop tallies₀ case₀ tallies case = case ≤ 3480
+Inv-loop edition tallies₀ case₀ tallies case = case ≤ 1740
 
 abbrev μ-loop : tie.MeasureT-loop
-μ-loop tallies₀ case₀ tallies case = 3480 - case
+μ-loop edition tallies₀ case₀ tallies case = 1740 - case
 
 of-requires : tie.Need-of-requires Inv-loop μ-loop
 of-requires c κs = search needs

@@ -5,7 +5,7 @@ use denote.Ref.{now}
 use borrow.Author.Needs.{needs}
 use Rattle.sheet.specs.Told.{readTold}
 use Rattle.promises.proofs.Read.{was-opened}
-use Rattle.promises.proofs.Listings.{sizes-unread, sizes-read}
+use Rattle.promises.proofs.Listings.{sizes-unread}
 use Rattle.writer.proofs.Places.{placed-as, placed-first}
 use Rattle.listing.proofs.list_sizes.Statement.{statement}
 use Rattle.listing.proofs.list_sizes.Tie as tie
@@ -24,8 +24,8 @@ enum-known-x-2 c = search needs
 
 put-sizes-lines-requires : tie.Need-put-sizes-lines-requires
 put-sizes-lines-requires c κs =
-    let opened = was-opened (now (c .before .before .before .before .before .before .args .sheet)) (sym (c .before .before .before .before .read .ensures) ∙ ap readTold (c .before .before .x2 .given .1)) in
-    (opened .inside, (opened .few, omega (arith, opened .few)))
+    let read = sym (c .before .before .before .before .read .ensures) ∙ ap readTold (c .before .before .x2 .given .1) in
+    (read, omega (arith, was-opened (now (c .before .before .before .before .before .before .args .sheet)) read .few))
 
 returns : tie.Need-returns
 returns c =
@@ -33,9 +33,7 @@ returns c =
     (placed-as (sizes-unread (now (c .before .before .before .before .before .before .before .args .sheet)) (sym (c .before .before .before .before .before .read .ensures) ∙ ap readTold (c .before .before .before .x .given .1))) (c .put-refused-line .ensures))
 
 returns-2 : tie.Need-returns-2
-returns-2 c =
-    placed-first
-    (placed-as (sizes-read (now (c .before .before .before .before .before .before .before .args .sheet)) (sym (c .before .before .before .before .before .read .ensures) ∙ ap readTold (c .before .before .before .x2 .given .1))) (c .put-sizes-lines .ensures))
+returns-2 c = placed-first (c .put-sizes-lines .ensures)
 
 pub list-sizes-spec : {M : Type 1} → statement M
 list-sizes-spec =

@@ -1,6 +1,6 @@
 -- `warm::fill_steps` meets its contract: a walk of its MIR, by hand. The list's borrow is opened once, before the loop, and closed once, after it.
 -- The invariant is where the loop stands (`Filling.antt`'s `Turn`): `record` and `i` are its numbers, its list lies in memory, and what the turns that are left make of that list is what the contract says.
--- A turn calls `follow` and `step_at` on the sheet (`Walk.antt`), takes element i out of the list, stores the step there, and puts it back.
+-- A turn calls `next_of` and `step_of` on the sheet (`Walk.antt`), takes element i out of the list, stores the step there, and puts it back.
 use mathlib.Core.Path.{_≡_, refl, sym, ap, subst}
 use mathlib.Core.WellFounded.{WellFounded, InvImage·wf}
 use Prim.Native.Nat.{ℕ, _+_, _*_, _<_, _≤_, _^_}
@@ -44,19 +44,20 @@ use denote.Triple.Entry.{onEntry}
 use denote.Triple.Spec.{Meets, tripleOf}
 use denote.Triple.Table.{entered, cited}
 use denote.Triple.Walked.{says, needs, Stays, stay-none, stay-none-slice, stay-slice, walkOf, Walks, ends-at, walked, goes-none, goes-none-slice, goes-slice, walk-meets}
-use Rattle.format.specs.declared.Step.{Step}
+use Rattle.format.specs.declared.ChamberStep.{ChamberStep}
 use Rattle.format.specs.Chain.{Inside, stepsFrom}
-use Rattle.format.specs.Format.{nextOf, stepOf}
-use Rattle.format.proofs.Step as T
-use Rattle.format.proofs.Step.Laws as T′
-use Rattle.sheet.proofs.record.follow as follow
-use Rattle.sheet.proofs.record.follow.Symbol as follow-def
-use Rattle.sheet.proofs.record.follow.Symbol.{name as #follow}
-use Rattle.sheet.proofs.record.follow.Met as follow-thm
-use Rattle.sheet.proofs.record.step_at as step-at
-use Rattle.sheet.proofs.record.step_at.Symbol as step-at-def
-use Rattle.sheet.proofs.record.step_at.Symbol.{name as #step-at}
-use Rattle.sheet.proofs.record.step_at.Met as step-at-thm
+use Rattle.format.specs.Format.{isFirst, nextOf, stepOf}
+use Rattle.format.proofs.Records.{number-below}
+use Rattle.format.proofs.ChamberStep as T
+use Rattle.format.proofs.ChamberStep.Laws as T′
+use Rattle.sheet.proofs.record.next_of as follow
+use Rattle.sheet.proofs.record.next_of.Symbol as follow-def
+use Rattle.sheet.proofs.record.next_of.Symbol.{name as #follow}
+use Rattle.sheet.proofs.record.next_of.Met as follow-thm
+use Rattle.sheet.proofs.record.step_of as step-at
+use Rattle.sheet.proofs.record.step_of.Symbol as step-at-def
+use Rattle.sheet.proofs.record.step_of.Symbol.{name as #step-at}
+use Rattle.sheet.proofs.record.step_of.Met as step-at-thm
 use Rattle.warm.proofs.Filling.{Turn, begin, reads, next, nearer, ended}
 use Rattle.warm.proofs.Walk.{here, tests, value, Lent, calls-on}
 use Rattle.warm.proofs.fill_steps.Key.{name as #fill-steps}
@@ -77,14 +78,14 @@ module _ {M : Type 1} (𝓤 : URA M) (H : Heap 𝓤) (A : Atoms 𝓤) (mem : Mem
   StepAt = tripleOf 𝓤 H A step-at.signature (step-at.spec 𝓤 H A mem run)
 
 module _ {M : Type 1} (𝓤 : URA M) (H : Heap 𝓤) (A : Atoms 𝓤) (W : Given 𝓤 H A) (mem : Memory → SProp 𝓤) (run : Routine → Fun 𝓤) (𝓣 : Tables 𝓤 H) (follows : Triple 𝓤 (𝓣 .C #follow) (Follow 𝓤 H A mem run)) (reads-step : Triple 𝓤 (𝓣 .C #step-at) (StepAt 𝓤 H A mem run))
-    (κ κ′ : Lft) (q q′ : Share) (sheet : RefT (List ℕ)) (b o : ℕ) (γ : GName) (ys : List Step) (n : ℕ) (s-fits : length (sheet .now) < 2 ^ 64) (room : Room T.the-row (length ys)) (n-fits : n < 2 ^ 64) (asked : Inside (sheet .now) 0 n × (n ≤ length ys)) where
+    (κ κ′ : Lft) (q q′ : Share) (sheet : RefT (List ℕ)) (b o : ℕ) (γ : GName) (ys : List ChamberStep) (n : ℕ) (s-fits : length (sheet .now) < 2 ^ 64) (room : Room T.the-row (length ys)) (n-fits : n < 2 ^ 64) (asked : Inside (sheet .now) 0 n × (n ≤ length ys)) where
   abbrev s : List ℕ
   s = sheet .now
 
-  abbrev steps : List Step → RefT (List Step)
+  abbrev steps : List ChamberStep → RefT (List ChamberStep)
   steps xs = record { ptr = (b, o); name = γ; now = xs }
 
-  abbrev a : RefT (List ℕ) × (RefT (List Step) × (ℕ × Unit {0}))
+  abbrev a : RefT (List ℕ) × (RefT (List ChamberStep) × (ℕ × Unit {0}))
   a = (sheet, (steps ys, (n, tt)))
 
   -- the machine values
@@ -101,10 +102,10 @@ module _ {M : Type 1} (𝓤 : URA M) (H : Heap 𝓤) (A : Atoms 𝓤) (W : Given
   After = walkOf 𝓤 H A fill-steps.ended stayed (fill-steps.clauses 𝓤 H A mem run) .post bound
 
   -- what is had at exit, at the list xs
-  abbrev Had : List Step → List (Item 𝓤)
+  abbrev Had : List ChamberStep → List (Item 𝓤)
   Had xs = ‵ (fobs γ (codedHoleys T.the-row .code (heres T.the-row xs))) ∷ ‵ (fbor κ′ (Held T.the-row (length xs) b o γ)) ∷ ‵ (flft κ′ q′) ∷ ‵ (flft κ q) ∷ ‵ (Lent κ sheet) ∷ []
 
-  exits : (xs : List Step) → length xs ≡ length ys → xs ≡ stepsFrom s 0 n ++ drop n ys → ent 𝓤 (⋆ 𝓤 H A (Had xs)) (After vunit)
+  exits : (xs : List ChamberStep) → length xs ≡ length ys → xs ≡ stepsFrom s 0 n ++ drop n ys → ent 𝓤 (⋆ 𝓤 H A (Had xs)) (After vunit)
   exits xs same is =
       qed W (Had xs) ∵ suffices ! _ (ends-at 𝓤 H A fill-steps.ended stayed (fill-steps.clauses 𝓤 H A mem run) W bound vunit tt (tt, (xs, (tt, tt))) (tt, (same, (tt, tt)))) $ says ! is $
       nothing ! $ move ! (3 ∷ 0 ∷ []) $ join ! $ move ! (3 ∷ 0 ∷ []) $ join ! $ frame ! $
@@ -131,20 +132,20 @@ module _ {M : Type 1} (𝓤 : URA M) (H : Heap 𝓤) (A : Atoms 𝓤) (W : Given
   abbrev j : At → ℕ
   j x = nextOf s (x .j)
 
-  abbrev y : At → Step
+  abbrev y : At → ChamberStep
   y x = stepOf s (j x)
 
   within : (x : At) → x .i < n → x .i < length (x .xs)
   within x l = omega (arith, x .same, asked .1)
 
-  offset-fits : (x : At) → x .i < n → x .i * 24 < 2 ^ 64
+  offset-fits : (x : At) → x .i < n → x .i * 32 < 2 ^ 64
   offset-fits x l = omega (arith, room .1, asked .1)
 
   next-fits : (x : At) → x .i < n → x .i + 1 < 2 ^ 64
   next-fits x l = omega (arith, n-fits)
 
   record-fits : (x : At) → x .i < n → x .j < 2 ^ 64
-  record-fits x l = omega (arith, reads s n ys x l .0, s-fits)
+  record-fits x l = omega (arith, reads s n ys x l .0, number-below (isFirst s) (x .j), s-fits)
 
   abbrev word : Ty
   word = tyInt w64
@@ -184,7 +185,7 @@ module _ {M : Type 1} (𝓤 : URA M) (H : Heap 𝓤) (A : Atoms 𝓤) (W : Given
         land ! (from ! (stop !)) (init ! 10 refl typed) $
         assigns ! (bin ! (here ! 14 refl) (lit ! tt) (record { fits = offset-fits x l })) (from ! (stop !)) (init ! 8 refl (tt, record { fits = offset-fits x l })) $
         assigns ! (bin ! (load ! (from ! (fld ! refl (stop !))) (look-in ! 20 (sub ! 0 refl (whole !)))) (here ! 8 refl) tt) (from ! (stop !)) (init ! 6 refl (tt, tt)) $
-        rewrite ! 6 (λ (p : ℕ). ‵ (fat fullShare tyPtr l₉ 0 (vptr b p))) (sym (place-is 24 o (x .i))) refl $
+        rewrite ! 6 (λ (p : ℕ). ‵ (fat fullShare tyPtr l₉ 0 (vptr b p))) (sym (place-is 32 o (x .i))) refl $
         -- element i is taken out of the list, stored to, and put back
         move ! (2 ∷ []) $ elem-out ! T.the-row (Is T.the-row) (shows 𝓤 H A T.the-row) (LL.vals T.the-type T′.the-laws) (LL.tells T.the-type T′.the-laws) fullShare (x .xs) (x .i) (y x) b o (within x l) (λ _.
         assigns ! (of-opd ! (here ! 12 refl)) (from ! (hop ! (look ! 8 refl) (stop !))) (store-raw ! 0 refl typed) $
@@ -229,5 +230,5 @@ fill-steps-spec 𝓤 H 𝓜 𝓖 𝓡 =
     entered 𝓤 H (tripleOf 𝓤 H (𝓖 .A) fill-steps.signature (fill-steps.spec 𝓤 H (𝓖 .A) (𝓜 .mem) (𝓡 .run)))
     (tables 𝓤 H 𝓜 𝓡 code.env .C) (tables 𝓤 H 𝓜 𝓡 code.env .Λ) #fill-steps code.function (code.unfolded 𝓤 H 𝓜 𝓡)
     (fill-steps-meets 𝓤 H (𝓖 .A) (givenOf 𝓤 H 𝓜 𝓖) (𝓜 .mem) (𝓡 .run) (tablesOf 𝓤 H 𝓜 (tables 𝓤 H 𝓜 𝓡 code.env))
-    (cited 𝓤 H (Follow 𝓤 H (𝓖 .A) (𝓜 .mem) (𝓡 .run)) 𝓜 𝓡 code.env #follow follow-def.routine code.calls-sheet·record·follow (follow-thm.met 𝓤 H 𝓜 𝓖 𝓡))
-    (cited 𝓤 H (StepAt 𝓤 H (𝓖 .A) (𝓜 .mem) (𝓡 .run)) 𝓜 𝓡 code.env #step-at step-at-def.routine code.calls-sheet·record·step-at (step-at-thm.met 𝓤 H 𝓜 𝓖 𝓡)))
+    (cited 𝓤 H (Follow 𝓤 H (𝓖 .A) (𝓜 .mem) (𝓡 .run)) 𝓜 𝓡 code.env #follow follow-def.routine code.calls-sheet·record·next-of (follow-thm.met 𝓤 H 𝓜 𝓖 𝓡))
+    (cited 𝓤 H (StepAt 𝓤 H (𝓖 .A) (𝓜 .mem) (𝓡 .run)) 𝓜 𝓡 code.env #step-at step-at-def.routine code.calls-sheet·record·step-of (step-at-thm.met 𝓤 H 𝓜 𝓖 𝓡)))

@@ -6,6 +6,7 @@ use borrow.Author.Needs.{needs}
 use denote.Ref.{now}
 use Rattle.format.specs.declared.Summary.{Summary}
 use Rattle.format.specs.Answer.{Given}
+use Rattle.format.specs.Format.{sizesList}
 use Rattle.format.specs.Reading.{campaignOf}
 use Rattle.format.specs.Stages.{summaryOf}
 use Rattle.sheet.specs.Told.{readTold}
@@ -17,7 +18,7 @@ use Rattle.warm.proofs.steps_reply.Tie as tie
 
 -- a reply with a sheet's summary
 replied : (s : List ℕ) (x : Summary) → summaryOf s ≡ x
-    → record { refusal = 0; place = 0; units = x .header .units; steps = x .steps; bound = x .header .bound; reserved = 0; start = x .header .start }
+    → record { refusal = 0; place = 0; units = x .header .units; steps = x .steps; bound = x .header .bound; reserved = 0; start = x .header .start; chambers = sizesList (x .header .sizes) }
     ≡ stepsReply (Given (campaignOf s))
 unfolding stepsReply campaignOf
 replied s x e =
@@ -29,6 +30,7 @@ replied s x e =
       bound = sym e i .header .bound;
       reserved = 0;
       start = sym e i .header .start;
+      chambers = sizesList (sym e i .header .sizes);
     }
 
 read-requires : tie.Need-read-requires
@@ -63,10 +65,10 @@ returns-2 c =
 
 returns-3 : tie.Need-returns-3
 returns-3 c =
-    let a = c .before .before .before .before .before .before .before .before .args in
+    let a = c .before .before .before .before .before .before .before .before .before .args in
     let s = now (a .sheet) in
-    let read = sym (c .before .before .before .before .before .before .read .ensures) ∙ ap readTold (c .before .before .before .before .x2 .given .1) in
-    replied s _ (was-opened s read .summary) ∙ ap stepsReply (answer-given s (a .places) read (c .before .if1 .left))
+    let read = sym (c .before .before .before .before .before .before .before .read .ensures) ∙ ap readTold (c .before .before .before .before .before .x2 .given .1) in
+    replied s _ (was-opened s read .summary) ∙ ap stepsReply (answer-given s (a .places) read (c .before .before .if1 .left))
 
 pub steps-reply-spec : {M : Type 1} → statement M
 steps-reply-spec =

@@ -1,5 +1,6 @@
 -- `writer::begin_sheet` meets its contract.
 use mathlib.Core.Path.{_≡_, sym, ap, ap₂, _∙_}
+use mathlib.Core.Bool.{true}
 use mathlib.Core.List.{List}
 use native.Mathlib.Omega.{arith}
 use denote.Ref.{now}
@@ -19,7 +20,7 @@ write-reply-requires : tie.Need-write-reply-requires
 write-reply-requires c κs = search needs
 
 -- where the reply has no refusal, none is given
-given : (c : tie.Then1) → let a = c .before .before .before .before .args in lengthAnswer (a .units) (a .start) (a .n) (length (now (a .out))) ≡ Given (sheetLength (a .n))
+given : (c : tie.Then1) → let a = c .before .before .before .before .args in lengthAnswer (a .units) (a .start) (a .n) (length (now (a .out))) ≡ Given (sheetLength true (a .n))
 given c =
     let a = c .before .before .before .before .args in
     not-refused (a .units) (a .start) (a .n) (length (now (a .out))) (sym (ap (λ (w : Written). w .refusal) (c .before .before .write-reply .ensures)) ∙ c .if1 .taken)

@@ -1,5 +1,6 @@
 -- `writer::write_reply` meets its contract: each way out passes the causes before its own.
 use mathlib.Core.Path.{_≡_, sym, ap, _∙_}
+use mathlib.Core.Bool.{true}
 use native.Mathlib.Omega.{arith}
 use borrow.Author.Tests.{eq-eqb, ne-eqb, lt-ltb, le-ltb}
 use Rattle.format.specs.Format.{unitLimit, recordLimit, sheetLength}
@@ -59,11 +60,11 @@ returns-4 c =
     (passed-by _ _ _ (sym (c .before .before .before .has-unit-from .ensures) ∙ c .before .before .if3 .left)
     (refused-by _ _ _ (lt-ltb recordLimit (a .n) (omega arith))))))
 
-add-length : tie.Need-add-length
-add-length c = search needs
-
 mul-length : tie.Need-mul-length
 mul-length c = search needs
+
+add-length : tie.Need-add-length
+add-length c = search needs
 
 cast-write-refused : tie.Need-cast-write-refused
 cast-write-refused c = search needs
@@ -75,13 +76,13 @@ returns-5 : tie.Need-returns-5
 unfolding writeRefusals replied
 returns-5 c =
     let a = c .before .before .before .before .before .before .before .args in
-    let refused : c .write-refused5 .result ≡ refusedWritten 12 (sheetLength (a .n)) = c .write-refused5 .ensures in
+    let refused : c .write-refused5 .result ≡ refusedWritten 12 (sheetLength true (a .n)) = c .write-refused5 .ensures in
     refused ∙ ap replied
     (passed-by _ _ _ (ne-eqb (a .units) 0 (omega arith))
     (passed-by _ _ _ (le-ltb unitLimit (a .units) (omega arith))
     (passed-by _ _ _ (sym (c .before .before .before .before .has-unit-from .ensures) ∙ c .before .before .before .if3 .left)
     (passed-by _ _ _ (le-ltb recordLimit (a .n) (omega arith))
-    (refused-by _ _ _ (lt-ltb (a .places) (sheetLength (a .n)) (omega arith)))))))
+    (refused-by _ _ _ (lt-ltb (a .places) (sheetLength true (a .n)) (omega arith)))))))
 
 cast-t9 : tie.Need-cast-t9
 cast-t9 c = search needs
@@ -95,7 +96,7 @@ returns-6 c =
     (passed-by _ _ _ (le-ltb unitLimit (a .units) (omega arith))
     (passed-by _ _ _ (sym (c .before .before .before .has-unit-from .ensures) ∙ c .before .before .if3 .left)
     (passed-by _ _ _ (le-ltb recordLimit (a .n) (omega arith))
-    (passed-by _ _ _ (le-ltb (a .places) (sheetLength (a .n)) (omega arith))
+    (passed-by _ _ _ (le-ltb (a .places) (sheetLength true (a .n)) (omega arith))
     (none-left _))))))
 
 pub write-reply-spec : {M : Type 1} → statement M
@@ -111,8 +112,8 @@ write-reply-spec =
     returns-3
     write-refused-requires-4
     returns-4
-    add-length
     mul-length
+    add-length
     cast-write-refused
     write-refused-requires-5
     returns-5

@@ -5,34 +5,34 @@ use Rattle.all_plans.proofs.plans.last_fault.Statement.{statement}
 use Rattle.all_plans.proofs.plans.last_fault.Tie as tie
 
 abbrev Inv-loop : tie.InvT-loop
-Inv-loop plan limits k₀ k = k ≤ 6
+Inv-loop plan feasible k₀ k = k ≤ 6
 
 abbrev μ-loop : tie.MeasureT-loop
-μ-loop plan limits k₀ k = k
+μ-loop plan feasible k₀ k = k
 
 loop-holds : tie.Need-loop-holds Inv-loop μ-loop
 loop-holds c = search needs
 
-sub-is-within : tie.Need-sub-is-within Inv-loop μ-loop
-sub-is-within c = search needs
+sub-is-in : tie.Need-sub-is-in Inv-loop μ-loop
+sub-is-in c = search needs
 
-mul-is-within : tie.Need-mul-is-within Inv-loop μ-loop
-mul-is-within c = search needs
+mul-is-in : tie.Need-mul-is-in Inv-loop μ-loop
+mul-is-in c = search needs
 
-array-copy-out-is-within : tie.Need-array-copy-out-is-within Inv-loop μ-loop
-array-copy-out-is-within c = search needs
+array-read-is-in : tie.Need-array-read-is-in Inv-loop μ-loop
+array-read-is-in c = search needs
 
-sub-is-within-2 : tie.Need-sub-is-within-2 Inv-loop μ-loop
-sub-is-within-2 c = search needs
+sub-is-in-2 : tie.Need-sub-is-in-2 Inv-loop μ-loop
+sub-is-in-2 c = search needs
 
-mul-is-within-2 : tie.Need-mul-is-within-2 Inv-loop μ-loop
-mul-is-within-2 c = search needs
+mul-is-in-2 : tie.Need-mul-is-in-2 Inv-loop μ-loop
+mul-is-in-2 c = search needs
 
-element-copy-out-is-within : tie.Need-element-copy-out-is-within Inv-loop μ-loop
-element-copy-out-is-within c = search needs
+element-copy-out-is-in : tie.Need-element-copy-out-is-in Inv-loop μ-loop
+element-copy-out-is-in c = search needs
 
-is-within-requires : tie.Need-is-within-requires Inv-loop μ-loop
-is-within-requires c κs = search needs
+is-in-requires : tie.Need-is-in-requires Inv-loop μ-loop
+is-in-requires c κs = search needs
 
 returns : tie.Need-returns Inv-loop μ-loop
 returns c = search needs
@@ -56,13 +56,13 @@ last-fault-spec =
     Inv-loop
     μ-loop
     loop-holds
-    sub-is-within
-    mul-is-within
-    array-copy-out-is-within
-    sub-is-within-2
-    mul-is-within-2
-    element-copy-out-is-within
-    is-within-requires
+    sub-is-in
+    mul-is-in
+    array-read-is-in
+    sub-is-in-2
+    mul-is-in-2
+    element-copy-out-is-in
+    is-in-requires
     returns
     sub-k
     loop-less

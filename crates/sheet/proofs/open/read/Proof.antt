@@ -2,6 +2,7 @@
 use mathlib.Core.Path.{sym, ap, _∙_}
 use borrow.Author.Needs.{needs}
 use denote.Ref.{now}
+use Rattle.format.specs.declared.Header.{Header}
 use Rattle.format.proofs.Readings.{opened, open-refuses, steps-decide}
 use Rattle.sheet.specs.Told.{readTold}
 use Rattle.sheet.proofs.open.read.Statement.{statement}
@@ -19,7 +20,7 @@ enum-known-x-2 c = search needs
 search-steps-requires : tie.Need-search-steps-requires
 search-steps-requires c κs =
     let o = opened (now (c .before .before .before .before .before .args .bytes)) (sym (c .before .before .before .read-chain .ensures) ∙ ap readTold (c .before .x2 .given .1)) in
-    (o .sound .few-units, (o .few, o .inside))
+    (sym (ap (λ (h : Header). h .sizes) (o .sound .is-header)), (o .sound .few-units, (o .sound .all-dealt, (o .few, o .inside))))
 
 returns : tie.Need-returns
 returns c = open-refuses (now (c .before .before .before .before .before .args .bytes)) (sym (c .before .before .before .read-chain .ensures) ∙ ap readTold (c .before .x .given .1))

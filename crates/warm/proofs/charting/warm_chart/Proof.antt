@@ -63,11 +63,14 @@ slice-aggregate-hand-out-chart c = search needs
 slice-aggregate-hand-out-chart-2 : tie.Need-slice-aggregate-hand-out-chart-2
 slice-aggregate-hand-out-chart-2 c = search needs
 
+slice-aggregate-hand-out-chart-3 : tie.Need-slice-aggregate-hand-out-chart-3
+slice-aggregate-hand-out-chart-3 c = search needs
+
 hand-out-chart-requires : tie.Need-hand-out-chart-requires
 hand-out-chart-requires c κs =
-    let read = sym (c .before .before .before .before .before .before .before .before .before .before .before .read .ensures) ∙ ap readTold (c .before .before .before .before .before .before .before .before .before .x2 .given .1) in
-    let few = was-opened (now (c .before .before .before .before .before .before .before .before .before .before .before .before .before .before .before .args .sheet)) read .few in
-    (read, (omega (arith, few), (omega (arith, few), (c .before .before .before .before .before .before .if1 .left, c .before .before .before .before .if2 .left))))
+    let read = sym (c .before .before .before .before .before .before .before .before .before .before .before .before .read .ensures) ∙ ap readTold (c .before .before .before .before .before .before .before .before .before .before .x2 .given .1) in
+    let few = was-opened (now (c .before .before .before .before .before .before .before .before .before .before .before .before .before .before .before .before .args .sheet)) read .few in
+    (read, (omega (arith, few), (omega (arith, few), (omega (arith, few), (c .before .before .before .before .before .before .before .if1 .left, c .before .before .before .before .before .if2 .left)))))
 
 returns-3 : tie.Need-returns-3
 unfolding warmChart charted
@@ -88,14 +91,13 @@ same-length-2 c = search needs
 returns-4 : tie.Need-returns-4
 unfolding warmChart charted
 returns-4 c =
-    let a = c .before .before .before .before .before .before .before .before .before .before .before .before .before .before .before .before .before .before .before .before .before .before .args in
+    let a = c .before .before .before .before .before .before .before .before .before .before .before .before .before .before .before .before .before .before .before .before .before .before .before .before .args in
     let s = now (a .sheet) in
     let on = now (a .on) in
     let off = now (a .off) in
-    let read = sym (c .before .before .before .before .before .before .before .before .before .before .before .before .before .before .before .before .before .before .read .ensures) ∙ ap readTold (c .before .before .before .before .before .before .before .before .before .before .before .before .before .before .before .before .x2 .given .1) in
-    c .before .before .before .before .before .before .hand-out-chart .ensures
-    ∙ ap (charted (startOf s) (onWords s) (offWords s) on off)
-    (plan-open s (min (length on) (length off)) read (omega (arith, c .before .before .before .before .before .before .before .before .before .before .before .before .before .if1 .left, c .before .before .before .before .before .before .before .before .before .before .before .if2 .left)))
+    let read = sym (c .before .before .before .before .before .before .before .before .before .before .before .before .before .before .before .before .before .before .before .before .read .ensures) ∙ ap readTold (c .before .before .before .before .before .before .before .before .before .before .before .before .before .before .before .before .before .before .x2 .given .1) in
+    c .before .before .before .before .before .before .before .hand-out-chart .ensures
+    ∙ ap (charted (startOf s) (onWords s) (offWords s) on off) (plan-open s (min (length on) (length off)) read (omega (arith, c .before .before .before .before .before .before .before .before .before .before .before .before .before .before .before .if1 .left, c .before .before .before .before .before .before .before .before .before .before .before .before .before .if2 .left)))
 
 pub warm-chart-spec : {M : Type 1} → statement M
 warm-chart-spec =
@@ -113,6 +115,7 @@ warm-chart-spec =
     returns-2
     slice-aggregate-hand-out-chart
     slice-aggregate-hand-out-chart-2
+    slice-aggregate-hand-out-chart-3
     hand-out-chart-requires
     returns-3
     same-length

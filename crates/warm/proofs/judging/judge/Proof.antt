@@ -1,13 +1,13 @@
 -- `warm::judging::judge` meets its contract.
-use mathlib.Core.Path.{_≡_, ap₂, _∙_}
-use mathlib.Core.Bool.{Bool, cond, _&&_}
 use Prim.Native.Nat.{ℕ}
-use borrow.Author.Needs.{needs}
-use denote.Ref.{now}
-use lib.Dec.{leb}
+use Rattle.promises.proofs.Read.{bound-is}
 use Rattle.promises.specs.Common.{fullReply}
 use Rattle.promises.specs.Verdict.{accepts}
-use Rattle.promises.proofs.Read.{bound-is}
+use denote.Ref.{now}
+use lib.Dec.{leb}
+use mathlib.Core.Bool.{Bool, cond, _&&_}
+use mathlib.Core.Path.{_≡_, ap₂, _∙_}
+use borrow.Author.Needs.{needs}
 use Rattle.warm.proofs.judging.judge.Statement.{statement}
 use Rattle.warm.proofs.judging.judge.Tie as tie
 
@@ -20,15 +20,12 @@ check-read-requires c κs = search needs
 yes-or-no-requires : tie.Need-yes-or-no-requires
 yes-or-no-requires c κs = search needs
 
-same-length : tie.Need-same-length
-same-length c = search needs
-
 returns : tie.Need-returns
 unfolding accepts
 returns c =
-    let k = c .before .before .before .before .before .before .before .before .before in
-    let found = c .before .before .before .check-read .ensures in
+    let k = c .before .before .before .before .before in
+    let found = c .before .check-read .ensures in
     ap₂ fullReply (found .1) (c .yes-or-no .ensures ∙ verdict (found .0) (found .1) (bound-is (now (k .args .sheet)) (k .pre .0)))
 
 pub judge-spec : {M : Type 1} → statement M
-judge-spec = tie.close (tie.spec check-read-requires yes-or-no-requires same-length returns)
+judge-spec = tie.close (tie.spec check-read-requires yes-or-no-requires returns)

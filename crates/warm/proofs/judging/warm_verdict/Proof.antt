@@ -1,11 +1,9 @@
 -- `warm::judging::warm_verdict` meets its contract.
 use mathlib.Core.Path.{sym, ap, _∙_}
-use native.Mathlib.Omega.{arith}
 use borrow.Author.Needs.{needs}
 use denote.Ref.{now}
 use Rattle.sheet.specs.Told.{readTold}
 use Rattle.promises.specs.Verdict.{judged, warmVerdict}
-use Rattle.promises.proofs.Read.{was-opened}
 use Rattle.promises.proofs.Verdicts.{verdict-refused, verdict-misfit, verdict-given}
 use Rattle.warm.proofs.judging.warm_verdict.Statement.{statement}
 use Rattle.warm.proofs.judging.warm_verdict.Tie as tie
@@ -35,13 +33,10 @@ returns c =
     let read = sym (c .before .before .before .before .before .before .read .ensures) ∙ ap readTold (c .before .before .before .before .x2 .given .1) in
     c .refused2 .ensures ∙ ap judged (verdict-misfit (now (a .sheet)) (now (a .plan)) read (c .before .if1 .taken))
 
-slice-aggregate-judge : tie.Need-slice-aggregate-judge
-slice-aggregate-judge c = search needs
-
 judge-requires : tie.Need-judge-requires
 judge-requires c κs =
-    let read = sym (c .before .before .before .before .before .before .read .ensures) ∙ ap readTold (c .before .before .before .before .x2 .given .1) in
-    (read, (omega (arith, was-opened (now (c .before .before .before .before .before .before .before .before .before .args .sheet)) read .few), c .before .if1 .left))
+    let read = sym (c .before .before .before .before .before .read .ensures) ∙ ap readTold (c .before .before .before .x2 .given .1) in
+    (read, c .if1 .left)
 
 returns-2 : tie.Need-returns-2
 unfolding warmVerdict judged
@@ -53,9 +48,9 @@ returns-2 c =
 returns-3 : tie.Need-returns-3
 unfolding warmVerdict judged
 returns-3 c =
-    let a = c .before .before .before .before .before .before .before .before .before .before .before .args in
-    let read = sym (c .before .before .before .before .before .before .before .before .read .ensures) ∙ ap readTold (c .before .before .before .before .before .before .x2 .given .1) in
-    c .before .judge .ensures ∙ ap judged (verdict-given (now (a .sheet)) (now (a .plan)) read (c .before .before .before .if1 .left))
+    let a = c .before .before .before .before .before .before .before .before .before .args in
+    let read = sym (c .before .before .before .before .before .before .read .ensures) ∙ ap readTold (c .before .before .before .before .x2 .given .1) in
+    c .judge .ensures ∙ ap judged (verdict-given (now (a .sheet)) (now (a .plan)) read (c .before .if1 .left))
 
 pub warm-verdict-spec : {M : Type 1} → statement M
 warm-verdict-spec =
@@ -68,7 +63,6 @@ warm-verdict-spec =
     cast-if1
     refused-requires-2
     returns
-    slice-aggregate-judge
     judge-requires
     returns-2
     returns-3)

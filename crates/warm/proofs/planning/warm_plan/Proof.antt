@@ -45,11 +45,14 @@ slice-aggregate-hand-out c = search needs
 slice-aggregate-hand-out-2 : tie.Need-slice-aggregate-hand-out-2
 slice-aggregate-hand-out-2 c = search needs
 
+slice-aggregate-hand-out-3 : tie.Need-slice-aggregate-hand-out-3
+slice-aggregate-hand-out-3 c = search needs
+
 hand-out-requires : tie.Need-hand-out-requires
 hand-out-requires c κs =
-    let read = sym (c .before .before .before .before .before .before .before .before .read .ensures) ∙ ap readTold (c .before .before .before .before .before .before .x2 .given .1) in
-    let few = was-opened (now (c .before .before .before .before .before .before .before .before .before .before .before .args .sheet)) read .few in
-    (read, (omega (arith, few), (omega (arith, few), c .before .before .before .if1 .left)))
+    let read = sym (c .before .before .before .before .before .before .before .before .before .read .ensures) ∙ ap readTold (c .before .before .before .before .before .before .before .x2 .given .1) in
+    let few = was-opened (now (c .before .before .before .before .before .before .before .before .before .before .before .before .args .sheet)) read .few in
+    (read, (omega (arith, few), (omega (arith, few), (omega (arith, few), c .before .before .before .before .if1 .left))))
 
 returns-2 : tie.Need-returns-2
 unfolding warmPlan planned
@@ -66,11 +69,11 @@ same-length c = search needs
 returns-3 : tie.Need-returns-3
 unfolding warmPlan planned
 returns-3 c =
-    let a = c .before .before .before .before .before .before .before .before .before .before .before .before .before .before .before .before .args in
+    let a = c .before .before .before .before .before .before .before .before .before .before .before .before .before .before .before .before .before .before .args in
     let s = now (a .sheet) in
     let out = now (a .plan) in
-    let read = sym (c .before .before .before .before .before .before .before .before .before .before .before .before .before .read .ensures) ∙ ap readTold (c .before .before .before .before .before .before .before .before .before .before .before .x2 .given .1) in
-    c .before .before .before .before .hand-out .ensures ∙ ap (planned (startOf s) out) (plan-open s (length out) read (c .before .before .before .before .before .before .before .before .if1 .left))
+    let read = sym (c .before .before .before .before .before .before .before .before .before .before .before .before .before .before .before .read .ensures) ∙ ap readTold (c .before .before .before .before .before .before .before .before .before .before .before .before .before .x2 .given .1) in
+    c .before .before .before .before .before .hand-out .ensures ∙ ap (planned (startOf s) out) (plan-open s (length out) read (c .before .before .before .before .before .before .before .before .before .before .if1 .left))
 
 pub warm-plan-spec : {M : Type 1} → statement M
 warm-plan-spec =
@@ -85,6 +88,7 @@ warm-plan-spec =
     returns
     slice-aggregate-hand-out
     slice-aggregate-hand-out-2
+    slice-aggregate-hand-out-3
     hand-out-requires
     returns-2
     same-length

@@ -5,6 +5,7 @@ use mathlib.Core.Path.{_≡_, refl, sym, ap, subst, _∙_}
 use mathlib.Core.WellFounded.{WellFounded, InvImage·wf}
 use Prim.Native.Nat.{ℕ, _+_, _-_, _*_, _/_, _<_, _≤_, _^_}
 use native.Mathlib.Omega.{arith}
+use mathlib.Core.Bool.{true}
 use mathlib.Core.List.{List, [], _∷_}
 use lib.Dec.{ltb→lt, nltb→le, lit<}
 use lib.ListN.{length}
@@ -183,7 +184,7 @@ module _ {M : Type 1} (𝓤 : URA M) (H : Heap 𝓤) (A : Atoms 𝓤) (W : Given
   w x = only (LL.vals T.the-type T′.the-laws x)
 
   -- what follows from what `begin_sheet` ensures, of the number m that `records_in` gives
-  promised-at : (r : Written) (zs : List ℕ) (m : ℕ) → Begun d bnd st xs ys r zs → m ≡ r .length / recordSize - 1 → Promised d bnd st xs ys r zs m
+  promised-at : (r : Written) (zs : List ℕ) (m : ℕ) → Begun d bnd st xs ys r zs → m ≡ r .length / recordSize true - 1 → Promised d bnd st xs ys r zs m
   promised-at r zs m e k = subst (Promised d bnd st xs ys r zs) (sym k) (promised d bnd st xs ys e)
 
   module _ (l₀ l₁ l₂ l₃ l₄ l₅ l₆ l₇ l₈ l₉ l₁₀ l₁₁ l₁₂ l₁₃ l₁₄ l₁₅ l₁₆ l₁₇ l₁₈ l₁₉ : ℕ) where
@@ -236,8 +237,8 @@ module _ {M : Type 1} (𝓤 : URA M) (H : Heap 𝓤) (A : Atoms 𝓤) (W : Given
       abbrev to-put : ℕ → GName → At → Put 𝓤 H A mem run .Ghost
       to-put ν δ t = (((ν ∷ [], tt), (fullShare, tt), tt, (x t, (t .i + 1, (m, (out δ (t .ws), tt)))), (w (x t) ∷ [], (vint w64 (t .i + 1) ∷ [], (vint w64 m ∷ [], (v ∷ [], tt))))), tt)
 
-      asked : (t : At) → t .i < m → (t .i + 1 ≤ m) × ((m ≤ recordLimit) × (sheetLength m ≤ length (t .ws)))
-      asked t l = (omega arith, (g .0 .small, omega (arith, g .0 .room (omega arith), long t)))
+      asked : (t : At) → t .i < m → (0 < t .i + 1) × ((t .i + 1 ≤ m) × ((m ≤ recordLimit) × (sheetLength true m ≤ length (t .ws))))
+      asked t l = (omega arith, (omega arith, (g .0 .small, omega (arith, g .0 .room (omega arith), long t))))
 
       goes-put : (ν : ℕ) (δ : GName) (t : At) → t .i < m → Is T.the-row (x t) (w (x t) ∷ [])
           → ent 𝓤 (sep 𝓤 (A .lft (ν ∷ []) fullShare) (sem 𝓤 H A (Lent ν δ (t .ws)))) (Put 𝓤 H A mem run .pre (to-put ν δ t))
@@ -308,8 +309,8 @@ module _ {M : Type 1} (𝓤 : URA M) (H : Heap 𝓤) (A : Atoms 𝓤) (W : Given
     goes-on r zs e is r-fits =
         use0 W (raw (In 𝓤 H A mem run .pre (to-in r))) (goes-in r r-fits) $
         calls-at ! (fmOf 𝓤 H (W .laws) 𝓣) (In 𝓤 H A mem run) ins (to-in r) (and-then ! (load ! (from ! (fld ! {d = 8} refl (stop !))) (look-in ! 31 (sub ! 2 refl (whole !)))) (no-more !)) (λ u.
-        use1 W (later (some (λ (m : ℕ). (‵ ftrue ⊛ ‵ (usize .own m (u ∷ []))) ⊛ some (λ (vs : Unit {0} × Unit {0}). ‵ (fsep ftrue ftrue) ⊛ raw (fact 𝓤 (m ≡ r .length / recordSize - 1)))))) (id⊢ 𝓤 _) $ await ! tt $ pick ! (λ m.
-        split ! $ move ! (1 ∷ []) $ pick ! (λ vs. split ! $ let-go ! $ heard ! (m ≡ r .length / recordSize - 1) (λ k. split ! $ let-go ! $ facts ! usize (Is usize) (shows 𝓤 H A usize) m (u ∷ []) (λ im.
+        use1 W (later (some (λ (m : ℕ). (‵ ftrue ⊛ ‵ (usize .own m (u ∷ []))) ⊛ some (λ (vs : Unit {0} × Unit {0}). ‵ (fsep ftrue ftrue) ⊛ raw (fact 𝓤 (m ≡ r .length / recordSize true - 1)))))) (id⊢ 𝓤 _) $ await ! tt $ pick ! (λ m.
+        split ! $ move ! (1 ∷ []) $ pick ! (λ vs. split ! $ let-go ! $ heard ! (m ≡ r .length / recordSize true - 1) (λ k. split ! $ let-go ! $ facts ! usize (Is usize) (shows 𝓤 H A usize) m (u ∷ []) (λ im.
         land ! (from ! (stop !)) (init ! 28 refl (uint-lawful 𝓤 H A W w64 .typed m (u ∷ []) im .0)) $ rewrite ! 28 (λ (y : Val). ‵ (fat fullShare word l₇ 0 y)) (ap only (im .0)) refl $
         assigns ! (of-opd ! (lit ! tt)) (from ! (stop !)) (init ! 26 refl (tt, record { fits = lit< tt })) $ move ! (2 ∷ 3 ∷ 1 ∷ 0 ∷ []) $
         let g = promised-at r zs m e k in

@@ -1,0 +1,74 @@
+// Another archive beside the library, for times in turns. bench/run puts `other_` before the names of its entries. One of version 1 has another steps list,
+// and knows edition 1 alone.
+use crate::library::{Reply, Step, Written};
+use crate::task::{call_library, Entry, Handed, Outputs, Task};
+
+#[cfg(other_steps_2)]
+use crate::library::{ChamberStep as Place, StepsReply};
+#[cfg(not(other_steps_2))]
+use Step as Place;
+
+#[cfg(not(other_steps_2))]
+#[repr(C)]
+struct StepsReply {
+    refusal: u32,
+    place: u32,
+    units: u32,
+    steps: u32,
+    bound: u32,
+    reserved: u32,
+    start: u64,
+}
+
+extern "C" {
+    #[cfg_attr(other_steps_2, link_name = "other_warm_steps_2")]
+    fn other_warm_steps(sheet: *const u8, sheet_len: usize, steps: *mut Place, steps_len: usize) -> StepsReply;
+    fn other_warm_plan(sheet: *const u8, sheet_len: usize, plan: *mut u64, plan_len: usize) -> Reply;
+    fn other_warm_verdict(sheet: *const u8, sheet_len: usize, plan: *const u64, plan_len: usize) -> Reply;
+    fn other_warm_chart(sheet: *const u8, sheet_len: usize, on: *mut u64, on_len: usize, off: *mut u64, off_len: usize) -> Reply;
+    fn other_warm_write(units: u8, bound: u16, start: u64, steps: *const Step, steps_len: usize, sheet: *mut u8, sheet_len: usize) -> Written;
+}
+
+// Whether the other archive can be asked for this: one of version 1 refuses sheets of edition 2.
+pub fn knows(task: &Task) -> bool {
+    cfg!(other_steps_2) || task.sheet[4] == 1
+}
+
+// The call of the other archive. Its steps go where the library's go, whatever the length of a place.
+pub fn call(task: &Task, out: &mut Outputs) {
+    let (sheet, len) = (task.sheet.as_ptr(), task.sheet.len());
+    unsafe {
+        match task.entry {
+            Entry::Steps => {
+                let said = other_warm_steps(sheet, len, out.list.as_mut_ptr().cast(), out.list.len());
+                let reply = &mut out.steps_reply;
+                (reply.refusal, reply.place, reply.units, reply.steps) = (said.refusal, said.place, said.units, said.steps);
+                (reply.bound, reply.start) = (said.bound, said.start);
+            }
+            Entry::Plan => out.reply = other_warm_plan(sheet, len, out.first.as_mut_ptr(), out.first.len()),
+            Entry::Verdict => out.reply = other_warm_verdict(sheet, len, task.plan.as_ptr(), task.plan.len()),
+            Entry::Chart => {
+                let (on, off) = (&mut out.first, &mut out.second);
+                out.reply = other_warm_chart(sheet, len, on.as_mut_ptr(), on.len(), off.as_mut_ptr(), off.len());
+            }
+            Entry::Write => {
+                let Handed { units, bound, start, ref steps, places } = task.handed;
+                out.written = other_warm_write(units, bound, start, steps.as_ptr(), steps.len(), out.sheet.as_mut_ptr(), places);
+            }
+        }
+    }
+}
+
+// Stops the program if the two archives differ on a task, in the reply or in the words or bytes that they leave. Of steps the numbers of the header
+// are compared.
+pub fn must_agree(task: &Task, what: &str) {
+    let [mut ours, mut theirs] = [Outputs::new(), Outputs::new()];
+    call_library(task, &mut ours);
+    call(task, &mut theirs);
+    theirs.list = ours.list;
+    theirs.steps_reply.chambers = ours.steps_reply.chambers;
+    if ours != theirs {
+        eprintln!("bench: {} differs from the other archive on {what}", task.entry.name());
+        std::process::exit(1);
+    }
+}

@@ -1,0 +1,2 @@
+-- `Filling` has what every loop over words keeps.
+pub mod Filling
