@@ -86,8 +86,8 @@ fn fill_steps(sheet: &[u8], steps: &mut [ChamberStep], n: usize)
     }
 }
 
-// The steps of a sheet, one struct a step, into the first places of the list. In its first version, which had another name, a step had one least and one
-// greatest number: a caller that was compiled for that struct finds no such entry.
+// The steps of a sheet, one struct a step, into the first places of the list. The number in its name goes with the struct: a caller that was compiled for
+// another one finds no such entry.
 #[no_mangle]
 pub extern "C" fn warm_steps_2(sheet: &[u8], steps: &mut [ChamberStep]) -> StepsReply
     ensures { λ r. ⌜ (r, now (steps .exit)) ≡ warmSteps (now (sheet .entry)) (now (steps .entry)) ⌝ }
