@@ -2,9 +2,11 @@
 use Prim.Native.Nat.{ℕ, _+_}
 use mathlib.Core.Bool.{Bool}
 use mathlib.Core.List.{List, [], _∷_, map}
+use lib.ListN.{getD}
 use Rattle.units.specs.Sets.{intersection}
 use Rattle.plans.specs.declared.Limits.{Limits}
 use Rattle.plans.specs.Plans.{allows, canBe}
+use Rattle.plans.specs.Rows.{limits}
 use Rattle.plans.specs.Support.{tieOrder}
 use Rattle.plans.specs.Switch.{total}
 use Rattle.chambers.specs.Chambers.{Chamber, ChamberLimits, chambersOf, partsOf, supportOf}
@@ -39,6 +41,10 @@ chartOf on d slack start ss c =
 abbrev pub oneChamber : ℕ → List Chamber
 oneChamber d = chambersOf (d ∷ 0 ∷ 0 ∷ 0 ∷ [])
 
--- a step of that chamber, with zeros for the others
+-- a step of such a bench, without chambers: its numbers are those of the first
+abbrev pub withoutChambers : ChamberLimits → Limits
+withoutChambers s = limits (s .lower) (s .upper) (getD (s .least) 0 0) (getD (s .greatest) 0 0)
+
+-- and the other way round, with zeros for the other chambers
 abbrev pub widened : Limits → ChamberLimits
 widened s = record { lower = s .lower; upper = s .upper; least = s .least ∷ 0 ∷ 0 ∷ 0 ∷ []; greatest = s .greatest ∷ 0 ∷ 0 ∷ 0 ∷ [] }

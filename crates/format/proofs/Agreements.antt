@@ -26,48 +26,7 @@ use Rattle.format.proofs.Answers.{past-first}
 use Rattle.format.proofs.Chains.{follow-ends, follow-on}
 use Rattle.format.proofs.Numbers.{same-u16, same-u32, same-u64}
 use Rattle.format.proofs.Readings.{open-staged, read-staged}
-use Rattle.format.proofs.Records.{next-before-tag, next-first, next-after}
-
--- ---- a record whose bytes before the tag are equal
-
--- from a place on, the bytes before the tag are equal
-abbrev SameAt : Bool → List ℕ → List ℕ → ℕ → Type 0
-SameAt first s t at = (i : ℕ) → i < tagAt first → byteAt s (at + i) ≡ byteAt t (at + i)
-
-module _ (s t : List ℕ) (at : ℕ) where
-  -- so are the numbers of the chambers, where they lie before it
-  same-numbers : (first : Bool) → SameAt first s t at → (i : ℕ) → i + cond first 1 4 ≤ tagAt first → numbersAt first s (at + i) ≡ numbersAt first t (at + i)
-  same-numbers true same i h = ap (λ (x : ℕ). x ∷ 0 ∷ 0 ∷ 0 ∷ []) (same i (omega arith))
-  same-numbers false same i h = λ k. same i (omega arith) k ∷ further 1 (omega arith) k ∷ further 2 (omega arith) k ∷ further 3 (omega arith) k ∷ []
-    where
-      further : (j : ℕ) → i + j < tagAt false → byteAt s (at + i + j) ≡ byteAt t (at + i + j)
-      further j l = ap (byteAt s) (add-assoc at i j) ∙ same (i + j) l ∙ ap (byteAt t) (sym (add-assoc at i j))
-
-  -- and the bytes that are zero
-  same-reserved : (first : Bool) → SameAt first s t at → cond first 0 (u16At s (at + reservedAt)) ≡ cond first 0 (u16At t (at + reservedAt))
-  same-reserved true same = refl
-  same-reserved false same = same-u16 s t at at (tagAt false) same reservedAt (omega arith)
-
-  -- so the step is the same but for its tag
-  same-in : (first : Bool) → SameAt first s t at → untagged (stepIn first s at) ≡ untagged (stepIn first t at)
-  unfolding stepIn
-  same-in first same =
-      let (sets, (least, greatest)) = room first in
-      let lower : u64At s at ≡ u64At t at =
-      ap (u64At s) (sym (add-zero at)) ∙ same-u64 s t at at (tagAt first) same 0 (omega arith) ∙ ap (u64At t) (add-zero at) in
-      λ i. record {
-        lower = lower i;
-        upper = same-u64 s t at at (tagAt first) same upperAt (omega arith) i;
-        least = same-numbers first same leastAt least i;
-        greatest = same-numbers first same (greatestAt first) greatest i;
-        tag = 0;
-        reserved = same-reserved first same i;
-      }
-    where
-      -- all fields lie before the tag
-      room : (first : Bool) → (16 ≤ tagAt first) × ((leastAt + cond first 1 4 ≤ tagAt first) × (greatestAt first + cond first 1 4 ≤ tagAt first))
-      room true = (omega arith, (omega arith, omega arith))
-      room false = (omega arith, (omega arith, omega arith))
+use Rattle.format.proofs.Records.{next-before-tag, next-first, next-after, same-untagged}
 
 -- ---- tags play no part in the causes
 
@@ -146,7 +105,8 @@ module _ {k : ℕ} (enough : startAt ≤ k) (s t : List ℕ) (g : AgreeTo k s t)
   same-step : {j : ℕ} → 0 < j → Visited s j → untagged (stepOf s j) ≡ untagged (stepOf t j)
   unfolding stepOf
   same-step {j} some v =
-      same-in s t (recordOffset (isFirst s) j) (isFirst s) (g .records j some v) ∙ ap (λ (b : Bool). untagged (stepIn b t (recordOffset b j))) same-edition
+      same-untagged s t (recordOffset (isFirst s) j) (recordOffset (isFirst s) j) (tagAt (isFirst s)) (g .records j some v) (isFirst s) (omega arith)
+      ∙ ap (λ (b : Bool). untagged (stepIn b t (recordOffset b j))) same-edition
 
   -- the steps of some records are the same but for tags
   abbrev SameSteps : List ℕ → Type 0

@@ -4,8 +4,10 @@
 pub mod Agreements
 pub mod Answers
 pub mod Chains
+pub mod Converted
 pub mod Examples
 pub mod Numbers
 pub mod Readings
 pub mod Records
+pub mod Remade
 pub mod Writings

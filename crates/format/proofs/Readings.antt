@@ -2,13 +2,13 @@
 -- stages decide one after the other.
 use mathlib.Core.Path.{_≡_, refl, sym, ap, ap₂, _∙_, subst}
 use mathlib.Core.Logic.{inl, inr}
-use mathlib.Core.Bool.{Bool, true, false, cond}
+use mathlib.Core.Bool.{Bool, true, false, cond, not, _&&_}
 use mathlib.Core.List.{List, [], _∷_, _++_, map}
 use Prim.Native.Nat.{ℕ, zero, suc, _+_, _≤_, _<_}
 use native.Mathlib.Omega.{arith}
 use lib.Dec.{eqb}
 use lib.ListN.{length, length-map, length-append}
-use borrow.Author.Tests.{ltb-false, eqb-false, eqb-true, not-false}
+use borrow.Author.Tests.{ltb-false, eq-eqb, eqb-false, eqb-true, not-false}
 use Rattle.units.specs.Sets.{hasUnitFrom}
 use Rattle.chambers.specs.Chambers.{Chamber, sum, chambersOf, someFits}
 use Rattle.format.specs.declared.Header.{Header}
@@ -16,10 +16,10 @@ use Rattle.format.specs.declared.ChamberStep.{ChamberStep}
 use Rattle.format.specs.declared.Summary.{Summary}
 use Rattle.format.specs.Answer.{Answer, Refused, Given, unless}
 use Rattle.format.specs.Chain.{following, chainOf, linkCauses, Within, Inside, stepsFrom}
-use Rattle.format.specs.Format.{unitLimit, recordLimit, sheetLength, isFirst, unitsOf, recordsOf, sizes, sizesList, chambersIn, header, nextOf, stepOf, limitsOf}
+use Rattle.format.specs.Format.{unitLimit, recordLimit, sheetLength, isFirst, unitsOf, recordsOf, reservedOf, sizes, sizesList, chambersIn, header, nextOf, stepOf, limitsOf}
 use Rattle.format.specs.Reading.{formCauses, headerCauses, stepsCauses, recordsOn, stepsOf, openCauses, readCauses, ReaderNumber}
 use Rattle.format.specs.Stages.{headerRead, chainRead, summaryOf, openRead, summaryRead}
-use Rattle.format.proofs.Answers.{none-left, unless-append, given-same, passed-first, all-passed, unless-given, refused-whatever, Numbered, numbered-append}
+use Rattle.format.proofs.Answers.{passed-by, none-left, unless-append, given-same, passed-first, all-passed, unless-given, refused-whatever, Numbered, numbered-append}
 use Rattle.format.proofs.Chains.{Met, met-none, met-more, met-room}
 use Rattle.format.proofs.Records.{length-mono}
 
@@ -30,6 +30,7 @@ pub record Sound (s : List ℕ) (h : Header) : Type 0 where
   pub some-units : 0 < h .units
   pub few-units : h .units ≤ unitLimit
   pub few-records : h .records ≤ recordLimit
+  pub zero-bytes : isFirst s ≡ true → reservedOf s ≡ 0
   pub all-dealt : sum (sizesList (h .sizes)) ≡ h .units
   pub own-start : hasUnitFrom (h .start) (h .units) ≡ false
   pub whole : length s ≡ sheetLength (isFirst s) (h .records)
@@ -57,6 +58,7 @@ header-sound s {h} e =
       some-units = positive (unitsOf s) (eqb-false (unitsOf s) 0 (no-unit .0));
       few-units = ltb-false unitLimit (unitsOf s) (units .0);
       few-records = ltb-false recordLimit (recordsOf s) (records .0);
+      zero-bytes = λ first. eqb-true (reservedOf s) 0 (not-false _ (ap (λ (b : Bool). b && not (eqb (reservedOf s) 0)) (sym first) ∙ zeros .0));
       all-dealt = eqb-true (sum (sizesList (sizes s))) (unitsOf s) (not-false _ (chambers .0));
       own-start = start .0;
       whole = eqb-true (length s) (sheetLength (isFirst s) (recordsOf s)) (not-false _ (end .0));
@@ -221,6 +223,14 @@ steps-faultless cs d i (x ∷ xs) a e =
       eqb-true (x .reserved) 0 (not-false _ (zeros .0)),
       (foreign .0, (not-false _ (infeasible .0), steps-faultless cs d (i + 1) xs a (infeasible .1))),
     )
+
+-- and such steps get no refusal
+pub faultless-passes : {A : Type 0} (cs : List Chamber) (d i : ℕ) (xs : List ChamberStep) (a : Answer A) → Faultless cs d xs → unless (stepsCauses cs d i xs) a ≡ a
+unfolding stepsCauses
+faultless-passes cs d i [] a h = sym (none-left a)
+faultless-passes cs d i (x ∷ xs) a h =
+    sym (passed-by _ _ _ (ap not (eq-eqb (x .reserved) 0 (h .0))) (passed-by _ _ _ (h .1 .0) (passed-by _ _ _ (ap not (h .1 .1 .0))
+    (sym (faultless-passes cs d (i + 1) xs a (h .1 .1 .1))))))
 
 pub read-faultless : (s : List ℕ) {x : Summary} → summaryRead s ≡ Given x → Faultless (chambersIn s) (unitsOf s) (stepsOf s)
 read-faultless s e =

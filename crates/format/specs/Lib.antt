@@ -4,6 +4,7 @@
 pub mod Agreement
 pub mod Answer
 pub mod Chain
+pub mod Editions
 pub mod Examples
 pub mod Format
 pub mod Numbers

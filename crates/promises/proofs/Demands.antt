@@ -26,31 +26,35 @@ use Rattle.format.specs.declared.Step.{Step}
 use Rattle.format.specs.Agreement.{Agree, AgreeButStart, untagged, readUntagged}
 use Rattle.format.specs.Answer.{Refused, Given, unless}
 use Rattle.format.specs.Chain.{following, chainOf, linkCauses}
-use Rattle.format.specs.Format.{startAt, sheetLength, limitsOf, isFirst, unitsOf, recordsOf, boundOf, startOf, oneSize, sizesList, chambersIn}
+use Rattle.format.specs.Editions.{inEdition}
+use Rattle.format.specs.Format.{startAt, sheetLength, limitsOf, isFirst, unitsOf, recordsOf, boundOf, startOf, oneSize, sizes, sizesList, chambersIn}
 use Rattle.format.specs.Reading.{stepsCauses, recordsOn, stepsOf, readCauses, ReaderNumber, campaignOf, campaignRead}
 use Rattle.format.specs.Writing.{sheetOf, numbersFrom, widened, AllWide}
 use Rattle.format.proofs.Agreements.{agree-itself, same-read}
 use Rattle.format.proofs.Answers.{none-holds, numbered-append, Numbered}
 use Rattle.format.proofs.Chains.{chain-is-long-enough}
 use Rattle.format.proofs.Readings.{numbered-read}
+use Rattle.format.proofs.Remade.{copied}
 use Rattle.format.proofs.Writings.{sheet-length, records-written, chain-written, written-reads}
 use Rattle.promises.specs.Chart.{onWords, offWords, charted, warmChart}
 use Rattle.promises.specs.Common.{limitsOn, FeasibleOn, placesCauses, written, refusedReply, fullReply}
+use Rattle.promises.specs.Convert.{convertRefusals, warmConvert}
 use Rattle.promises.specs.Plan.{supportOn, boundCauses, planRefusals, planned, warmPlan}
 use Rattle.promises.specs.declared.Reply.{Reply}
 use Rattle.promises.specs.declared.Written.{Written}
 use Rattle.promises.specs.Listing.{refusedLine, planLines, listingRefusals, listed, listing, printed, listPlan, sizesLines, sizesListed, sizesListing, listSizes}
-use Rattle.promises.specs.Statements.{Exact, Passes, Meets, HandedOut, supportBy, FewestAndExact, FewestLater, OneChamber}
+use Rattle.promises.specs.Statements.{Exact, Passes, Meets, HandedOut, supportBy, FewestAndExact, FewestLater, OneChamber, Converted}
 use Rattle.promises.specs.Steps.{stepsRefusals, stepsReply, stepsWritten, warmSteps}
 use Rattle.promises.specs.Verdict.{wordsCauses, verdictRefusals, accepts, judged, warmVerdict}
 use Rattle.promises.specs.Write.{writeRefusals, refusedWritten, fullWritten, wrote, warmWrite}
 use Rattle.promises.proofs.Charts.{words-length, words-cells, no-others}
+use Rattle.promises.proofs.Converts.{converted-length, convert-gives, convert-numbers, converted-from, raised-steps, lowered-again}
 use Rattle.promises.proofs.Exactly.{exact, no-first}
-use Rattle.promises.proofs.Likeness.{alike-reply, alike-list, alike-plan, alike-chart, alike-verdict, alike-listing, alike-sizes}
+use Rattle.promises.proofs.Likeness.{untagged-alike, alike-reply, alike-list, alike-plan, alike-chart, alike-verdict, alike-listing, alike-sizes}
 use Rattle.promises.proofs.Plans.{fewest-by, plan-fewest, plan-length-on, over-bound, in-bound, plan-open, plan-given}
 use Rattle.promises.proofs.Read.{bench, passed}
 use Rattle.promises.proofs.Restarts.{restarted, total-restarted}
-use Rattle.promises.proofs.Single.{single}
+use Rattle.promises.proofs.Single.{first-is-single, single}
 use Rattle.promises.proofs.Verdicts.{verdict-given, accepts-exactly, turned-down}
 use Rattle.promises.proofs.Writes.{Limited, limited, write-numbers}
 
@@ -143,6 +147,18 @@ unfolding warmWrite wrote
 demand-1-write d bound start xs out =
     exact (writeRefusals d start (length xs) (length out)) WriteNumber
     (write-numbers WriteNumber (omega arith, omega arith) (omega arith, omega arith) d start (length xs) (length out)) (sheetOf d bound start xs) (wrote out)
+
+-- refusals 1 to 8, 13 and 14, and 15 where edition 1 is wanted
+abbrev pub ConvertNumber : Bool → ℕ → Type 0
+ConvertNumber first n = StepsNumber n ⊎ ((first ≡ true) × (n ≡ 15))
+
+pub demand-1-convert : (first : Bool) (s out : List ℕ)
+    → Exact (convertRefusals first s (length out)) (ConvertNumber first) (warmConvert first s out) (λ n p. (refusedWritten n p, out))
+    (fullWritten (length (inEdition first s)), written (inEdition first s) out)
+unfolding warmConvert wrote
+demand-1-convert first s out =
+    exact (convertRefusals first s (length out)) (ConvertNumber first)
+    (convert-numbers (ConvertNumber first) first (λ n h. inl (inl h)) (inl (inr refl)) (λ down. inr (down, refl)) s (length out)) (inEdition first s) (wrote out)
 
 -- ---- demand 2: a plan handed in beside a sheet that passes the checks
 
@@ -268,7 +284,7 @@ all-units-on-at-the-start s plan on off ok = first-loading-left-out s s plan on 
 
 -- What is promised of a sheet with chambers is promised of a sheet of edition 1 as of one chamber: what is said of its plans is what is said without chambers.
 pub edition-1-is-one-chamber : (s : List ℕ) → Passes s → isFirst s ≡ true → OneChamber s
-edition-1-is-one-chamber s ok first = single s first ok
+edition-1-is-one-chamber s ok first = single s ok (first-is-single s first)
 
 -- ---- a sheet that was written
 
@@ -307,6 +323,56 @@ written-reads-back d bound start xs out narrow wide handed =
     let (bytes, l) = the-sheet d bound start xs out handed in
     ap campaignRead bytes ∙ written-reads d bound start xs (l .few) (l .some) (l .most) (l .own) narrow wide
 
+-- ---- between editions
+
+-- a sheet already of the wanted edition is copied unaltered
+pub copied-unaltered : (first : Bool) (s : List ℕ) → isFirst s ≡ first → inEdition first s ≡ s
+copied-unaltered first s same = copied first s same
+
+-- the length of a converted sheet, which is the place of refusal 8, is that of a sheet in that edition with as many records
+pub needed-length : (first : Bool) (s : List ℕ) → Passes s → length (inEdition first s) ≡ sheetLength first (recordsOf s)
+needed-length first s ok = converted-length first s (passed s ok)
+
+-- Where a sheet was converted, with a reply whose refusal is 0, the first bytes of the output, as many as the reply says, are the sheet in that edition.
+the-conversion : (first : Bool) (s out : List ℕ) → warmConvert first s out .0 .refusal ≡ 0
+    → (take (warmConvert first s out .0 .length) (warmConvert first s out .1) ≡ inEdition first s) × (Passes s × (first ≡ true → unitsOf s ≤ sizes s .first))
+the-conversion first s out handed =
+    let t = inEdition first s in
+    let exactly = demand-1-convert first s out in
+    let none = no-first exactly (λ (r : Written × List ℕ). r .0 .refusal) (λ n p number e. some n number e) handed in (
+      ap (λ (r : Written × List ℕ). take (r .0 .length) (r .1)) (exactly .replies none) ∙ take-at t (drop (length t) out) (length t) refl,
+      convert-gives first s (length out) (none-holds (convertRefusals first s (length out)) (Given t) none),
+    )
+  where
+    some : (n : ℕ) → ConvertNumber first n → n ≡ 0 → ⊥
+    some n (inl (inl (inl (l, h)))) e = omega arith
+    some n (inl (inl (inr (l, h)))) e = omega arith
+    some n (inl (inr h)) e = omega arith
+    some n (inr (down, h)) e = omega arith
+
+-- It passes the checks, and has the same units, bound, start set, chambers, records and steps, but for how numbers are written; so it gets the same plan, chart,
+-- verdict and listings.
+pub converted-says-the-same : (first : Bool) (s out : List ℕ) → warmConvert first s out .0 .refusal ≡ 0
+    → Converted first s (take (warmConvert first s out .0 .length) (warmConvert first s out .1))
+converted-says-the-same first s out handed =
+    let (bytes, (ok, low)) = the-conversion first s out handed in
+    subst (Converted first s) (sym bytes) (converted-from first s ok low)
+
+-- Going up, `warm_steps` gives the same to the letter.
+pub going-up-same-steps : (s out : List ℕ) (list : List ChamberStep) → isFirst s ≡ true → warmConvert false s out .0 .refusal ≡ 0
+    → warmSteps (take (warmConvert false s out .0 .length) (warmConvert false s out .1)) list ≡ warmSteps s list
+going-up-same-steps s out list first handed =
+    let (bytes, (ok, low)) = the-conversion false s out handed in
+    ap (λ t. warmSteps t list) bytes ∙ raised-steps s ok first list
+
+-- A sheet of edition 1 goes up and then down, into an output with room for it: it is the sheet, to the byte.
+pub up-and-down-again : (s out back : List ℕ) → isFirst s ≡ true → warmConvert false s out .0 .refusal ≡ 0 → length s ≤ length back
+    → warmConvert true (take (warmConvert false s out .0 .length) (warmConvert false s out .1)) back ≡ (fullWritten (length s), written s back)
+unfolding warmConvert wrote
+up-and-down-again s out back first handed room =
+    let (bytes, (ok, low)) = the-conversion false s out handed in
+    ap (λ t. warmConvert true t back) bytes ∙ ap (wrote back) (lowered-again s ok first (length back) room)
+
 -- ---- sheets that differ only in job tags and in records off the chain
 
 -- They get the same refusal of the reader, or say the same but for tags, and whatever is made of that is the same.
@@ -321,16 +387,16 @@ agreeing-steps s t out g = let e = agreeing-sheets s t g in (alike-reply s t e (
 
 -- and the others give the same in all
 pub agreeing-plan : (s t out : List ℕ) → Agree s t → warmPlan s out ≡ warmPlan t out
-agreeing-plan s t out g = alike-plan s t (agreeing-sheets s t g) out
+agreeing-plan s t out g = alike-plan s t _ _ (agreeing-sheets s t g) (untagged-alike s t) out
 
 pub agreeing-chart : (s t on off : List ℕ) → Agree s t → warmChart s on off ≡ warmChart t on off
-agreeing-chart s t on off g = alike-chart s t (agreeing-sheets s t g) on off
+agreeing-chart s t on off g = alike-chart s t _ _ (agreeing-sheets s t g) (untagged-alike s t) on off
 
 pub agreeing-verdict : (s t plan : List ℕ) → Agree s t → warmVerdict s plan ≡ warmVerdict t plan
-agreeing-verdict s t plan g = alike-verdict s t (agreeing-sheets s t g) plan
+agreeing-verdict s t plan g = alike-verdict s t _ _ (agreeing-sheets s t g) (untagged-alike s t) plan
 
 pub agreeing-listing : (s t out : List ℕ) → Agree s t → listPlan s out ≡ listPlan t out
-agreeing-listing s t out g = ap (λ text. printed text out) (alike-listing s t (agreeing-sheets s t g))
+agreeing-listing s t out g = ap (λ text. printed text out) (alike-listing s t _ _ (agreeing-sheets s t g) (untagged-alike s t))
 
 pub agreeing-sizes : (s t out : List ℕ) → Agree s t → listSizes s out ≡ listSizes t out
-agreeing-sizes s t out g = ap (λ text. printed text out) (alike-sizes s t (agreeing-sheets s t g))
+agreeing-sizes s t out g = ap (λ text. printed text out) (alike-sizes s t _ _ (agreeing-sheets s t g) (untagged-alike s t))

@@ -2,6 +2,7 @@
 -- `Steps`, `Plans`, `Charts`, `Verdicts`, `Writes` and `Listings` have the laws on each entry's answer, `Likeness` those on sheets that are read the same but for
 -- tags, `Restarts` those on a sheet whose start set is replaced, `Single` that a sheet of edition 1 is the case of one chamber, and `Examples` the worked examples.
 pub mod Charts
+pub mod Converts
 pub mod Demands
 pub mod Examples
 mod Exactly

@@ -1,7 +1,9 @@
 -- Laws on the listings of a sheet: what they are by what the reader says and by the plan's total.
-use mathlib.Core.Path.{_≡_, sym, ap, _∙_}
-use mathlib.Core.List.{List, map}
-use Prim.Native.Nat.{ℕ, _≤_, _<_}
+use mathlib.Core.Path.{_≡_, refl, sym, ap, _∙_}
+use mathlib.Core.List.{List, [], _∷_, _++_, map}
+use Prim.Native.Nat.{ℕ, _+_, _≤_, _<_}
+use Rattle.units.specs.declared.Sizes.{Sizes}
+use Rattle.chambers.specs.Chambers.{Chamber, ChamberLimits, sizesIn}
 use Rattle.plans.specs.Switch.{total}
 use Rattle.format.specs.declared.Summary.{Summary}
 use Rattle.format.specs.Answer.{Answer, Refused, Given, unless}
@@ -14,7 +16,7 @@ use Rattle.promises.specs.Common.{limitsOn}
 use Rattle.promises.specs.Plan.{supportOn, boundCauses}
 use Rattle.promises.proofs.Plans.{over-bound, in-bound}
 use Rattle.promises.proofs.Read.{was-opened, many-steps, start-is, bound-is, units-are, was-read}
-use Rattle.promises.specs.Listing.{refusedLine, planLines, listingRefusals, listed, listing, sizesLines, sizesListed, sizesListing}
+use Rattle.promises.specs.Listing.{refusedLine, planLines, listingRefusals, listed, listing, sizesLine, sizesLines, sizesListed, sizesListing}
 
 pub listing-staged : (s : List ℕ) → listing s ≡ listed s (unless (readCauses s) (unless (boundCauses s) (Given (supportOn s))))
 unfolding listing listingRefusals
@@ -55,3 +57,16 @@ pub sizes-read : (s : List ℕ) {x : Summary} → summaryRead s ≡ Given x
     → sizesLines (chambersIn s) 1 (map limitsOf (stepsFrom s 0 (x .steps))) ≡ sizesListing s
 unfolding sizesListed sizesListing
 sizes-read s e = ap (λ xs. sizesLines (chambersIn s) 1 (map limitsOf xs)) (was-opened s e .steps) ∙ ap (sizesListed (chambersIn s)) (was-read s e (Given (limitsOn s)))
+
+-- the lines are made of the sizes alone
+pub lines-by-sizes : (cs ds : List Chamber) (i : ℕ) (ss ts : List ChamberLimits) → map (sizesIn cs) ss ≡ map (sizesIn ds) ts → sizesLines cs i ss ≡ sizesLines ds i ts
+unfolding sizesLines
+lines-by-sizes cs ds i ss ts e = lines cs i ss ∙ ap (linesOf i) e ∙ sym (lines ds i ts)
+  where
+    linesOf : ℕ → List Sizes → List ℕ
+    linesOf i [] = []
+    linesOf i (z ∷ zs) = sizesLine i z ++ linesOf (i + 1) zs
+
+    lines : (cs : List Chamber) (i : ℕ) (ss : List ChamberLimits) → sizesLines cs i ss ≡ linesOf i (map (sizesIn cs) ss)
+    lines cs i [] = refl
+    lines cs i (s ∷ ss) = ap (λ rest. sizesLine i (sizesIn cs s) ++ rest) (lines cs (i + 1) ss)

@@ -76,3 +76,11 @@ turned-down s plan misses = go (accepts s plan) refl (accepts-digit s plan)
     go : (n : ℕ) → accepts s plan ≡ n → n ≤ 1 → accepts s plan ≡ 0
     go zero e h = e
     go (suc n) e h = absurd (misses (accepts-exactly s plan .0 (omega arith)))
+
+-- so sheets that the same plans meet accept the same
+pub same-accepts : (s t plan : List ℕ) → Meets s plan ↔ Meets t plan → accepts s plan ≡ accepts t plan
+same-accepts s t plan same = go (accepts s plan) refl (accepts-digit s plan)
+  where
+    go : (n : ℕ) → accepts s plan ≡ n → n ≤ 1 → accepts s plan ≡ accepts t plan
+    go zero e h = e ∙ sym (turned-down t plan (λ m. omega (arith, e, accepts-exactly s plan .1 (same .1 m))))
+    go (suc n) e h = let yes : accepts s plan ≡ 1 = omega arith in yes ∙ sym (accepts-exactly t plan .1 (same .0 (accepts-exactly s plan .0 yes)))

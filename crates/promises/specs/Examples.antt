@@ -2,16 +2,18 @@
 -- the definitions alone. specs/Writing.antt of `format` has the bytes of a sheet, and its specs/Examples.antt what the reader says of sheets with every fault.
 use Prim.Native.Nat.{ℕ}
 use mathlib.Core.Path.{_≡_}
+use mathlib.Core.Bool.{Bool, true, false}
 use mathlib.Core.List.{List, [], _∷_, _++_}
 use lib.ListN.{set, replicate}
 use Rattle.format.specs.declared.ChamberStep.{ChamberStep}
 use Rattle.format.specs.declared.Step.{Step}
 use Rattle.format.specs.Examples.{tagged, step, chambered, noStep, oneRecord, tagsAndUnused, chamberHeader, chamberRecord, four, noChamberStep, twoChambers, oneOfThird, notZero}
-use Rattle.format.specs.Writing.{sheetOf, widened}
+use Rattle.format.specs.Writing.{headerBytes, recordBytes, sheetOf, numbersFrom, widened}
 use Rattle.promises.specs.declared.Reply.{Reply}
 use Rattle.promises.specs.declared.StepsReply.{StepsReply}
 use Rattle.promises.specs.declared.Written.{Written}
 use Rattle.promises.specs.Common.{refusedReply, fullReply}
+use Rattle.promises.specs.Convert.{warmConvert}
 use Rattle.promises.specs.Steps.{warmSteps}
 use Rattle.promises.specs.Plan.{warmPlan}
 use Rattle.promises.specs.Chart.{warmChart}
@@ -49,6 +51,23 @@ oneOfEach bound start = chamberHeader 4 2 1 bound (four 2 0 2 0) start ++ chambe
 abbrev pub fullChamber : List ℕ
 fullChamber = chamberHeader 3 1 1 3 (four 2 0 1 0) 0 ++ chamberRecord (chambered 0 7 (four 0 0 1 0) (four 1 0 1 0) 0 0) 0
 
+-- Three units in one chamber, and three records, of which the second is the first step, the first is the second and last, and the third, with a byte of its own in each place, is
+-- unused: in edition 1, and in edition 2, where the steps also have greatest numbers for chambers that have no unit.
+abbrev pub spareInFirst : List ℕ
+spareInFirst = headerBytes 3 3 2 515 5 ++ recordBytes (tagged 1 7 0 2 67305985) 0 ++ recordBytes (tagged 2 3 1 2 4294967295) 1 ++ numbersFrom 101 24
+
+abbrev pub spareInSecond : List ℕ
+spareInSecond =
+    chamberHeader 3 3 2 515 (four 3 0 0 0) 5 ++ chamberRecord (chambered 1 7 (four 0 0 0 0) (four 2 17 34 51) 0 67305985) 0
+    ++ chamberRecord (chambered 2 3 (four 1 0 0 0) (four 2 0 0 255) 0 4294967295) 1 ++ numbersFrom 101 32
+
+-- Four runs in edition 2, with a bound.
+abbrev pub raisedRuns : ℕ → List ℕ
+raisedRuns bound = chamberHeader 3 4 1 bound (four 3 0 0 0) 0 ++ run 1 2 ++ run 2 3 ++ run 4 4 ++ run 1 0
+  where
+    run : ℕ → ℕ → List ℕ
+    run lower next = chamberRecord (chambered lower 7 (four 0 0 0 0) (four 2 0 0 0) 0 0) next
+
 -- ---- the table
 
 -- a call of an entry on a sheet, or on what a sheet is written from, and lent memory, with its reply and what the memory holds afterwards; or the sizes of a
@@ -59,6 +78,7 @@ pub data Example : Type 0 where
   chart : List ℕ → List ℕ → List ℕ → Reply → List ℕ → List ℕ → Example
   verdict : List ℕ → List ℕ → Reply → Example
   write : ℕ → ℕ → ℕ → List Step → List ℕ → Written → List ℕ → Example
+  convert : Bool → List ℕ → List ℕ → Written → List ℕ → Example
   sizes : List ℕ → List ℕ → Example
 
 abbrev pub Holds : Example → Type 0
@@ -67,6 +87,7 @@ Holds (plan s out reply after) = warmPlan s out ≡ (reply, after)
 Holds (chart s on off reply on-after off-after) = warmChart s on off ≡ (reply, (on-after, off-after))
 Holds (verdict s handed reply) = warmVerdict s handed ≡ reply
 Holds (write d bound start xs out reply after) = warmWrite d bound start xs out ≡ (reply, after)
+Holds (convert first s out reply after) = warmConvert first s out ≡ (reply, after)
 Holds (sizes s text) = sizesListing s ≡ text
 
 -- every row of a table holds
@@ -205,4 +226,35 @@ chamberings =
     ∷ sizes fullChamber (49 ∷ 32 ∷ 49 ∷ 32 ∷ 50 ∷ 10 ∷ [])
     ∷ plan (noChamberStep 2 (four 1 0 0 0)) nines (refusedReply 13 12) nines
     ∷ chart (twoChambers oneOfThird notZero) nines threeNines (refusedReply 14 2) nines threeNines
+    ∷ []
+
+-- Sheets in the other edition, byte by byte, into outputs with one place more: going up, and going down. Four runs in edition 2, whatever the bound, and a sheet without a step.
+-- Sheets of the wanted edition are copied, also with units in several chambers. Then refusals: of the reader, 14 before 15, 15 before 8, and 8 for outputs that are one byte too short,
+-- whichever way. Plan and chart of Four runs in edition 2 are those of the benches.
+unfoldable pub conversions : List Example
+conversions =
+    convert false spareInFirst (replicate 121 9) (fullWritten 120)
+    (87 ∷ 65 ∷ 82 ∷ 77 ∷ 2 ∷ 3 ∷ 3 ∷ 0 ∷ 2 ∷ 0 ∷ 3 ∷ 2 ∷ 3 ∷ 0 ∷ 0 ∷ 0 ∷ 5 ∷ 0 ∷ 0 ∷ 0 ∷ 0 ∷ 0 ∷ 0 ∷ 0
+    ∷ 1 ∷ 0 ∷ 0 ∷ 0 ∷ 0 ∷ 0 ∷ 0 ∷ 0 ∷ 7 ∷ 0 ∷ 0 ∷ 0 ∷ 0 ∷ 0 ∷ 0 ∷ 0 ∷ 0 ∷ 0 ∷ 0 ∷ 0 ∷ 2 ∷ 0 ∷ 0 ∷ 0 ∷ 0 ∷ 0 ∷ 0 ∷ 0 ∷ 1 ∷ 2 ∷ 3 ∷ 4
+    ∷ 2 ∷ 0 ∷ 0 ∷ 0 ∷ 0 ∷ 0 ∷ 0 ∷ 0 ∷ 3 ∷ 0 ∷ 0 ∷ 0 ∷ 0 ∷ 0 ∷ 0 ∷ 0 ∷ 1 ∷ 0 ∷ 0 ∷ 0 ∷ 2 ∷ 0 ∷ 0 ∷ 0 ∷ 1 ∷ 0 ∷ 0 ∷ 0 ∷ 255 ∷ 255 ∷ 255 ∷ 255
+    ∷ 101 ∷ 102 ∷ 103 ∷ 104 ∷ 105 ∷ 106 ∷ 107 ∷ 108 ∷ 109 ∷ 110 ∷ 111 ∷ 112 ∷ 113 ∷ 114 ∷ 115 ∷ 116 ∷ 117 ∷ 0 ∷ 0 ∷ 0 ∷ 118 ∷ 0 ∷ 0 ∷ 0 ∷ 119 ∷ 120 ∷ 0 ∷ 0 ∷ 121 ∷ 122 ∷ 123 ∷ 124 ∷ 9 ∷ [])
+    ∷ convert true spareInSecond (replicate 97 9) (fullWritten 96)
+    (87 ∷ 65 ∷ 82 ∷ 77 ∷ 1 ∷ 3 ∷ 3 ∷ 0 ∷ 2 ∷ 0 ∷ 3 ∷ 2 ∷ 0 ∷ 0 ∷ 0 ∷ 0 ∷ 5 ∷ 0 ∷ 0 ∷ 0 ∷ 0 ∷ 0 ∷ 0 ∷ 0
+    ∷ 1 ∷ 0 ∷ 0 ∷ 0 ∷ 0 ∷ 0 ∷ 0 ∷ 0 ∷ 7 ∷ 0 ∷ 0 ∷ 0 ∷ 0 ∷ 0 ∷ 0 ∷ 0 ∷ 0 ∷ 2 ∷ 0 ∷ 0 ∷ 1 ∷ 2 ∷ 3 ∷ 4
+    ∷ 2 ∷ 0 ∷ 0 ∷ 0 ∷ 0 ∷ 0 ∷ 0 ∷ 0 ∷ 3 ∷ 0 ∷ 0 ∷ 0 ∷ 0 ∷ 0 ∷ 0 ∷ 0 ∷ 1 ∷ 2 ∷ 1 ∷ 0 ∷ 255 ∷ 255 ∷ 255 ∷ 255
+    ∷ 101 ∷ 102 ∷ 103 ∷ 104 ∷ 105 ∷ 106 ∷ 107 ∷ 108 ∷ 109 ∷ 110 ∷ 111 ∷ 112 ∷ 113 ∷ 114 ∷ 115 ∷ 116 ∷ 117 ∷ 121 ∷ 125 ∷ 126 ∷ 129 ∷ 130 ∷ 131 ∷ 132 ∷ 9 ∷ [])
+    ∷ convert false (fourRuns 2 0) (replicate 152 9) (fullWritten 152) (raisedRuns 2)
+    ∷ convert true (raisedRuns 2) (replicate 120 9) (fullWritten 120) (fourRuns 2 0)
+    ∷ convert false noStep (replicate 24 9) (fullWritten 24) (noChamberStep 1 (four 1 0 0 0))
+    ∷ convert true spareInFirst (replicate 96 9) (fullWritten 96) spareInFirst
+    ∷ convert false (twoChambers oneOfThird oneOfThird) (replicate 120 9) (fullWritten 120) (twoChambers oneOfThird oneOfThird)
+    ∷ convert false (oneRecord 1 1) nines (refusedWritten 5 1) nines
+    ∷ convert true (twoChambers oneOfThird notZero) nines (refusedWritten 14 2) nines
+    ∷ convert true (twoChambers oneOfThird oneOfThird) nines (refusedWritten 15 12) nines
+    ∷ convert false spareInFirst (replicate 119 9) (refusedWritten 8 120) (replicate 119 9)
+    ∷ convert true spareInSecond (replicate 95 9) (refusedWritten 8 96) (replicate 95 9)
+    ∷ convert true spareInFirst (replicate 95 9) (refusedWritten 8 96) (replicate 95 9)
+    ∷ plan (raisedRuns 3) nines (fullReply 3 0) (1 ∷ 3 ∷ 5 ∷ 5 ∷ 9 ∷ [])
+    ∷ plan (raisedRuns 2) nines (refusedReply 9 3) nines
+    ∷ chart (raisedRuns 3) nines nines (fullReply 3 0) (3 ∷ 3 ∷ 5 ∷ 5 ∷ 9 ∷ []) (6 ∷ 4 ∷ 2 ∷ 6 ∷ 9 ∷ [])
     ∷ []

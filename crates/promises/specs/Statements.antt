@@ -6,14 +6,14 @@ use mathlib.Core.Logic.{_↔_, _⊎_}
 use mathlib.Core.List.{List, [], _∷_, map}
 use lib.ListN.{length, getD, take}
 use Rattle.units.specs.Sets.{bit}
-use Rattle.format.specs.declared.ChamberStep.{ChamberStep}
 use Rattle.format.specs.Answer.{Cause, First}
-use Rattle.format.specs.Format.{unitsOf, boundOf, startOf, sizes, sizesList, chambersIn}
-use Rattle.format.specs.Reading.{stepsOf, readCauses}
+use Rattle.format.specs.Editions.{narrowed}
+use Rattle.format.specs.Format.{isFirst, unitsOf, recordsOf, boundOf, startOf, sizes, sizesList, chambersIn, stepOf, nextOf}
+use Rattle.format.specs.Reading.{recordsOn, stepsOf, readCauses}
 use Rattle.chambers.specs.Chambers.{sizesIn, supportInBy}
+use Rattle.chambers.specs.Parts.{withoutChambers}
 use Rattle.plans.specs.declared.Limits.{Limits}
 use Rattle.plans.specs.Plans.{allows, fewest, canBeOn, canBeOff}
-use Rattle.plans.specs.Rows.{limits}
 use Rattle.plans.specs.Support.{findSupport}
 use Rattle.plans.specs.Switch.{FeasiblePlan, sizesOf, total, laterTotal}
 use Rattle.promises.specs.declared.Reply.{Reply}
@@ -21,6 +21,7 @@ use Rattle.promises.specs.Common.{limitsOn, FeasibleOn, written, refused
 use Rattle.promises.specs.Plan.{fewestOn, supportOn, warmPlan}
 use Rattle.promises.specs.Chart.{onWords, offWords, warmChart}
 use Rattle.promises.specs.Verdict.{warmVerdict}
+use Rattle.promises.specs.Listing.{listing, sizesListing}
 
 -- An entry on one input answers exactly: `result` is its reply with all lent memory afterwards. If the first cause of the list that holds has
 -- number n and place p, then n is one of the entry's numbers and the result is `refused n p`; if none holds, the result is `given`.
@@ -87,12 +88,9 @@ pub record FewestLater (s t plan on off : List ℕ) (best : ℕ) : Type 0 where
 
 -- ---- edition 1
 
--- a step as one chamber has it: with the two numbers of its first chamber
-abbrev pub firstLimits : ChamberStep → Limits
-firstLimits x = limits (x .lower) (x .upper) (getD (x .least) 0 0) (getD (x .greatest) 0 0)
-
+-- the steps of a sheet without chambers: with the two numbers of the first chamber
 abbrev pub oneLimits : List ℕ → List Limits
-oneLimits s = map firstLimits (stepsOf s)
+oneLimits s = map withoutChambers (limitsOn s)
 
 -- A sheet of edition 1 is the case of one chamber: all of its units are in the first, and what is said of its feasible plans, of the fewest switches, of the plan that is handed
 -- out, of the chart and of sizes is said without chambers, by the definitions of `plans`.
@@ -104,3 +102,31 @@ pub record OneChamber (s : List ℕ) : Type 0 where
   pub on : onWords s ≡ canBeOn allows (unitsOf s) (boundOf s) (startOf s) (oneLimits s)
   pub off : offWords s ≡ canBeOff allows (unitsOf s) (boundOf s) (startOf s) (oneLimits s)
   pub sizes : map (sizesIn (chambersIn s)) (limitsOn s) ≡ map sizesOf (oneLimits s)
+
+-- ---- between editions
+
+-- What t, which a sheet s was converted to, has in common with s.
+pub record Converted (first : Bool) (s t : List ℕ) : Type 0 where
+  -- it passes the checks, and is of the edition that was wanted
+  pub passes : Passes t
+  pub edition : isFirst t ≡ first
+  -- the units, the bound, the start set and the chambers are the same
+  pub units : unitsOf t ≡ unitsOf s
+  pub bound : boundOf t ≡ boundOf s
+  pub start : startOf t ≡ startOf s
+  pub chambers : sizesList (sizes t) ≡ sizesList (sizes s)
+  -- there are as many records; each of them, unused ones too, names the same next one (as the header, record 0, names the first), and holds the same step but for
+  -- how its numbers are written: its sets, its tag and the numbers of the first chamber
+  pub records : recordsOf t ≡ recordsOf s
+  pub links : (j : ℕ) → j ≤ recordsOf s → nextOf t j ≡ nextOf s j
+  pub held : (j : ℕ) → 0 < j → j ≤ recordsOf s → narrowed (stepOf t j) ≡ narrowed (stepOf s j)
+  -- so the chain and the steps are, and the same plans are feasible
+  pub chain : recordsOn t ≡ recordsOn s
+  pub steps : map narrowed (stepsOf t) ≡ map narrowed (stepsOf s)
+  pub feasible : (plan : List ℕ) → FeasibleOn t plan ↔ FeasibleOn s plan
+  -- and plan, chart, verdict and listings are the same, refusal 9 included
+  pub plan : (out : List ℕ) → warmPlan t out ≡ warmPlan s out
+  pub chart : (on off : List ℕ) → warmChart t on off ≡ warmChart s on off
+  pub verdict : (plan : List ℕ) → warmVerdict t plan ≡ warmVerdict s plan
+  pub list : listing t ≡ listing s
+  pub listSizes : sizesListing t ≡ sizesListing s

@@ -23,7 +23,7 @@ pub struct Reply {
     pub accepted: u32,
 }
 
-// What `warm_write` replies. Where refusal is not 0, it is a refusal with its place, and the other numbers are 0.
+// What `warm_write`, `warm_to_edition_1` and `warm_to_edition_2` reply. Where refusal is not 0, it is a refusal with its place, and the other numbers are 0.
 #[repr(C)]
 pub struct Written {
     pub refusal: u32,

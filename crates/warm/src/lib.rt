@@ -1,6 +1,7 @@
 // The entries that buyers call, over lent bytes and lent buffers. Each has no `requires`, and one `ensures` that equates its reply and
 // all lent memory with a definition of `promises`, for any input. docs/FORMAT.md has the sheet and the refusal table.
 pub mod charting;
+pub mod converting;
 pub mod judging;
 pub mod planning;
 pub mod writing;

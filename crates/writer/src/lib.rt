@@ -16,7 +16,7 @@ ghost use Rattle.promises.specs.Write.{refusedWritten};
 ghost use Rattle.writer.specs.Begun.{lengthAnswer, replied, begun};
 
 // A refusal.
-fn write_refused(number: u32, place: u32) -> Written
+pub fn write_refused(number: u32, place: u32) -> Written
     ensures { λ r. ⌜ r ≡ refusedWritten number place ⌝ }
 {
     Written {

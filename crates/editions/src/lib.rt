@@ -1,0 +1,65 @@
+// Sheets converted from one edition to the other: the reader's refusals, 15 and 8, or the bytes of the sheet in the other edition. specs/Editions.antt of `format` has these
+// bytes. `first` is true for the first edition everywhere. Nothing here is an open entry of the library.
+pub mod remake;
+
+use format::Header;
+use format::Summary;
+use promises::Written;
+use remake::put_sheet;
+use sheet::ReadAnswer;
+use sheet::Sheet;
+use sheet::record::sheet_length;
+use writer::write_refused;
+ghost use mathlib.Core.Path.{_≡_};
+ghost use mathlib.Core.Bool.{_&&_};
+ghost use lib.Dec.{ltb};
+ghost use lib.ListN.{length};
+ghost use Rattle.format.specs.Answer.{Given};
+ghost use Rattle.format.specs.Stages.{summaryRead};
+ghost use Rattle.promises.specs.Convert.{convertAnswer, warmConvert};
+ghost use Rattle.promises.specs.Write.{wrote};
+
+// Whether the sheet cannot be converted: the first edition has one chamber, and a unit is outside the first.
+fn leaves_out(first: bool, h: Header) -> bool
+    ensures { λ r. ⌜ r ≡ (first && ltb (h .sizes .first) (h .units)) ⌝ }
+{
+    if !first {
+        return false;
+    }
+    let sizes = h.sizes;
+    sizes.first < h.units
+}
+
+// Converts a sheet that was read: refusals 15 and 8, or the sheet, into the first places of the output.
+fn convert_read(first: bool, sheet: &[u8], x: Summary, out: &mut [u8]) -> Written
+    requires { ⌜ summaryRead (now sheet) ≡ Given x ⌝ }
+    ensures { λ r.
+        ⌜ (r, now (out .exit)) ≡ wrote (now (out .entry)) (convertAnswer first (now (sheet .entry)) (length (now (out .entry)))) ⌝ }
+{
+    let header = x.header;
+    if leaves_out(first, header) {
+        return write_refused(15, Sheet::CHAMBERS_AT as u32);
+    }
+    let records = header.records as usize;
+    let length = sheet_length(first, records);
+    if out.len() < length {
+        return write_refused(8, length as u32);
+    }
+    put_sheet(first, sheet, records, out);
+    Written {
+        refusal: 0,
+        place: 0,
+        length: length as u32,
+        reserved: 0,
+    }
+}
+
+// A sheet in an edition, into the first places of the output.
+pub fn convert(first: bool, sheet: &[u8], out: &mut [u8]) -> Written
+    ensures { λ r. ⌜ (r, now (out .exit)) ≡ warmConvert first (now (sheet .entry)) (now (out .entry)) ⌝ }
+{
+    match sheet::open::read(sheet) {
+        ReadAnswer::Refused(x) => write_refused(x.number, x.place),
+        ReadAnswer::Read(x) => convert_read(first, sheet, x, out),
+    }
+}
