@@ -3,14 +3,14 @@
 use mathlib.Core.Path.{_≡_, refl, sym, ap, ap₂, _∙_, subst}
 use mathlib.Core.Bool.{Bool, true, false, not, Bool·beq}
 use mathlib.Core.List.{List, [], _∷_, _++_, append-nil, append-assoc}
-use Prim.Native.Nat.{ℕ, zero, suc, _+_, _-_, _*_, _≤_, _<_}
+use Prim.Native.Nat.{ℕ, zero, suc, _+_, _-_, _*_, _/_, _%_, _≤_, _<_}
 use native.Mathlib.Nat.{add-zero}
 use native.Mathlib.Numerals.{add-one}
 use native.Mathlib.Omega.{arith}
 use lib.ListN.{length, take, drop}
 use Rattle.format.specs.Editions.{part, zeros, recordIn, recordPart, recordsIn}
 use Rattle.format.specs.Format.{recordSize, sheetLength, recordOffset}
-use Rattle.format.specs.Numbers.{byteAt}
+use Rattle.format.specs.Numbers.{byteAt, bytesOf}
 use Rattle.format.proofs.Records.{record-ends, length-mono}
 use Rattle.format.proofs.Remade.{written-out, record-there, records-long}
 use Rattle.writer.specs.Placed.{Placed}
@@ -33,16 +33,27 @@ other-edition false false e = sym e
 
 -- ---- a record by its parts
 
+-- a number of one byte, as one of four
+pub one-number : (x : ℕ) → x < 256 → bytesOf 4 x ≡ x ∷ zeros 3
+unfolding bytesOf
+one-number x h =
+    let first : x % 256 ≡ x = omega arith in
+    let second : x / 256 % 256 ≡ 0 = omega arith in
+    let third : x / 256 / 256 % 256 ≡ 0 = omega arith in
+    let fourth : x / 256 / 256 / 256 % 256 ≡ 0 = omega arith in
+    λ i. first i ∷ second i ∷ third i ∷ fourth i ∷ []
+
 pub first-record : (b : List ℕ) → length b ≡ recordSize false
-    → part 0 16 b ++ (byteAt b 16 ∷ []) ++ (byteAt b 20 ∷ []) ++ part 24 2 b ++ part 28 4 b ≡ recordIn true b
+    → part 0 8 b ++ part 8 8 b ++ (byteAt b 16 ∷ []) ++ (byteAt b 20 ∷ []) ++ part 24 2 b ++ part 28 4 b ≡ recordIn true b
 unfolding recordIn byteAt
-first-record = written-out 32 (λ b. part 0 16 b ++ (byteAt b 16 ∷ []) ++ (byteAt b 20 ∷ []) ++ part 24 2 b ++ part 28 4 b ≡ recordIn true b) (λ f. refl)
+first-record = written-out 32 (λ b. part 0 8 b ++ part 8 8 b ++ (byteAt b 16 ∷ []) ++ (byteAt b 20 ∷ []) ++ part 24 2 b ++ part 28 4 b ≡ recordIn true b) (λ f. refl)
 
 pub second-record : (b : List ℕ) → length b ≡ recordSize true
-    → part 0 16 b ++ (byteAt b 16 ∷ zeros 3) ++ (byteAt b 17 ∷ zeros 3) ++ part 18 2 b ++ zeros 2 ++ part 20 4 b ≡ recordIn false b
-unfolding recordIn byteAt
+    → part 0 8 b ++ part 8 8 b ++ (byteAt b 16 ∷ zeros 3) ++ (byteAt b 17 ∷ zeros 3) ++ part 18 2 b ++ bytesOf 2 0 ++ part 20 4 b ≡ recordIn false b
+unfolding recordIn byteAt bytesOf
 second-record =
-    written-out 24 (λ b. part 0 16 b ++ (byteAt b 16 ∷ zeros 3) ++ (byteAt b 17 ∷ zeros 3) ++ part 18 2 b ++ zeros 2 ++ part 20 4 b ≡ recordIn false b) (λ f. refl)
+    written-out 24
+    (λ b. part 0 8 b ++ part 8 8 b ++ (byteAt b 16 ∷ zeros 3) ++ (byteAt b 17 ∷ zeros 3) ++ part 18 2 b ++ bytesOf 2 0 ++ part 20 4 b ≡ recordIn false b) (λ f. refl)
 
 -- ---- one record after the other
 

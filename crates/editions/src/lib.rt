@@ -1,5 +1,6 @@
 // Sheets converted from one edition to the other: the reader's refusals, 15 and 8, or the bytes of the sheet in the other edition. specs/Editions.antt of `format` has these
 // bytes. `first` is true for the first edition everywhere. Nothing here is an open entry of the library.
+pub mod copy;
 pub mod remake;
 
 use format::Header;
@@ -30,17 +31,24 @@ fn leaves_out(first: bool, h: Header) -> bool
     sizes.first < h.units
 }
 
+// How many records a sheet that was read has, those off the chain too.
+fn record_count(x: Summary) -> usize
+    ensures { λ r. ⌜ r ≡ x .header .records ⌝ }
+{
+    let header = x.header;
+    header.records as usize
+}
+
 // Converts a sheet that was read: refusals 15 and 8, or the sheet, into the first places of the output.
 fn convert_read(first: bool, sheet: &[u8], x: Summary, out: &mut [u8]) -> Written
     requires { ⌜ summaryRead (now sheet) ≡ Given x ⌝ }
     ensures { λ r.
         ⌜ (r, now (out .exit)) ≡ wrote (now (out .entry)) (convertAnswer first (now (sheet .entry)) (length (now (out .entry)))) ⌝ }
 {
-    let header = x.header;
-    if leaves_out(first, header) {
+    if leaves_out(first, x.header) {
         return write_refused(15, Sheet::CHAMBERS_AT as u32);
     }
-    let records = header.records as usize;
+    let records = record_count(x);
     let length = sheet_length(first, records);
     if out.len() < length {
         return write_refused(8, length as u32);

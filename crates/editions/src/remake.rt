@@ -1,10 +1,15 @@
 // A sheet of one edition as one of the other: its header, and each of its records, those off the chain too.
+use super::copy::copy_u16;
+use super::copy::copy_u32;
+use super::copy::copy_u64;
 use sheet::Sheet;
 use sheet::record::is_first;
 use sheet::record::record_offset;
 use sheet::record::sheet_length;
 use writer::put::put_byte;
 use writer::put::put_text;
+use writer::put::put_u16;
+use writer::put::put_u32;
 ghost use mathlib.Core.Path.{_≡_};
 ghost use mathlib.Core.Bool.{true, false, cond, not};
 ghost use mathlib.Core.List.{_∷_};
@@ -27,8 +32,7 @@ fn put_numbers(x: u8, out: &mut [u8], at: usize) -> usize
     requires { ⌜ at + 4 ≤ length (now out) ⌝ }
     ensures { λ r. ⌜ Placed (x ∷ zeros 3) (now (out .entry)) at (now (out .exit)) r ⌝ }
 {
-    let numbers = [x, 0, 0, 0];
-    put_text(&numbers, out, at)
+    put_u32(x as u64, out, at)
 }
 
 // Puts the header of a sheet, in that edition, into the first places of the output, and gives the place after it.
@@ -56,19 +60,12 @@ fn put_first_record(b: &[u8], out: &mut [u8], at: usize) -> usize
     requires { ⌜ at + recordSize true ≤ length (now out) ⌝ }
     ensures { λ r. ⌜ Placed (recordIn true (now (b .entry))) (now (out .entry)) at (now (out .exit)) r ⌝ }
 {
-    let after_sets = put_text(&b[0..Sheet::LEAST_AT], out, at);
-    let after_least = put_byte(b[Sheet::LEAST_AT], out, after_sets);
+    let after_lower = copy_u64(b, 0, out, at);
+    let after_upper = copy_u64(b, Sheet::UPPER_AT, out, after_lower);
+    let after_least = put_byte(b[Sheet::LEAST_AT], out, after_upper);
     let after_greatest = put_byte(b[Sheet::CHAMBER_GREATEST_AT], out, after_least);
-    let after_next = put_text(
-        &b[Sheet::CHAMBER_NEXT_AT..Sheet::RESERVED_AT],
-        out,
-        after_greatest,
-    );
-    put_text(
-        &b[Sheet::CHAMBER_TAG_AT..Sheet::CHAMBER_RECORD_SIZE],
-        out,
-        after_next,
-    )
+    let after_next = copy_u16(b, Sheet::CHAMBER_NEXT_AT, out, after_greatest);
+    copy_u32(b, Sheet::CHAMBER_TAG_AT, out, after_next)
 }
 
 // The same for a record of the first edition as one of the second.
@@ -77,12 +74,13 @@ fn put_second_record(b: &[u8], out: &mut [u8], at: usize) -> usize
     requires { ⌜ at + recordSize false ≤ length (now out) ⌝ }
     ensures { λ r. ⌜ Placed (recordIn false (now (b .entry))) (now (out .entry)) at (now (out .exit)) r ⌝ }
 {
-    let after_sets = put_text(&b[0..Sheet::LEAST_AT], out, at);
-    let after_least = put_numbers(b[Sheet::LEAST_AT], out, after_sets);
+    let after_lower = copy_u64(b, 0, out, at);
+    let after_upper = copy_u64(b, Sheet::UPPER_AT, out, after_lower);
+    let after_least = put_numbers(b[Sheet::LEAST_AT], out, after_upper);
     let after_greatest = put_numbers(b[Sheet::GREATEST_AT], out, after_least);
-    let after_next = put_text(&b[Sheet::NEXT_AT..Sheet::TAG_AT], out, after_greatest);
-    let after_reserved = put_text(b"\0\0", out, after_next);
-    put_text(&b[Sheet::TAG_AT..Sheet::RECORD_SIZE], out, after_reserved)
+    let after_next = copy_u16(b, Sheet::NEXT_AT, out, after_greatest);
+    let after_reserved = put_u16(0, out, after_next);
+    copy_u32(b, Sheet::TAG_AT, out, after_reserved)
 }
 
 // A record of the other edition in that edition.

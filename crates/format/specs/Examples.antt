@@ -1,17 +1,19 @@
--- Worked examples of the reader: sheets written out, and what the reader says of each, either one refusal with its place or the campaign. One statement, `All`
--- of the table, is proved in proofs/Examples.antt from the definitions alone. The theorems do not say which byte a tag begins at or which place a refusal
+-- Worked examples of the reader: sheets written out, and what the reader says of each, either one refusal with its place or the campaign; and sheets in the other
+-- edition. One statement, `All` of the tables, is proved in proofs/Examples.antt from the definitions alone. The theorems do not say which byte a tag begins at or which place a refusal
 -- has; these rows do.
 use Prim.Native.Nat.{ℕ}
 use mathlib.Core.Path.{_≡_}
+use mathlib.Core.Bool.{Bool, true, false}
 use mathlib.Core.List.{List, [], _∷_, _++_}
 use lib.ListN.{replicate, set, take}
 use Rattle.format.specs.declared.ChamberStep.{ChamberStep}
 use Rattle.format.specs.declared.Step.{Step}
 use Rattle.format.specs.Answer.{Answer, Refused, Given}
+use Rattle.format.specs.Editions.{inEdition}
 use Rattle.format.specs.Format.{letters}
 use Rattle.format.specs.Numbers.{bytesOf}
 use Rattle.format.specs.Reading.{Campaign, campaignRead}
-use Rattle.format.specs.Writing.{headerBytes, recordBytes, sheetOf, widened}
+use Rattle.format.specs.Writing.{headerBytes, recordBytes, sheetOf, numbersFrom, widened}
 
 -- ---- steps
 
@@ -177,4 +179,54 @@ campaigns =
     ∷ row (twoChambers oneOfThird (chambered 6 7 (four 0 0 1 0) (four 1 2 3 4) 0 4294967295))
     (Given (record { units = 3; bound = 515; start = 5; chambers = four 1 0 2 0; steps = oneOfThird ∷ chambered 6 7 (four 0 0 1 0) (four 1 2 3 4) 0 4294967295 ∷ [] }))
     ∷ row (chamberHeader 1 256 0 0 (four 0 0 0 1) 0 ++ replicate 8192 0) (Given (record { units = 1; bound = 0; start = 0; chambers = four 0 0 0 1; steps = [] }))
+    ∷ []
+
+-- ---- sheets in the other edition
+
+-- Three units in one chamber, and three records, of which the second is the first step, the first is the second and last, and the third, with a byte of its own in each place, is
+-- unused: in edition 1, and in edition 2, where the steps also have greatest numbers for chambers that have no unit.
+abbrev pub spareInFirst : List ℕ
+spareInFirst = headerBytes 3 3 2 515 5 ++ recordBytes (tagged 1 7 0 2 67305985) 0 ++ recordBytes (tagged 2 3 1 2 4294967295) 1 ++ numbersFrom 101 24
+
+abbrev pub spareInSecond : List ℕ
+spareInSecond =
+    chamberHeader 3 3 2 515 (four 3 0 0 0) 5 ++ chamberRecord (chambered 1 7 (four 0 0 0 0) (four 2 17 34 51) 0 67305985) 0
+    ++ chamberRecord (chambered 2 3 (four 1 0 0 0) (four 2 0 0 255) 0 4294967295) 1 ++ numbersFrom 101 32
+
+-- and these in the other edition, byte by byte
+abbrev pub spareRaised : List ℕ
+spareRaised =
+    87 ∷ 65 ∷ 82 ∷ 77 ∷ 2 ∷ 3 ∷ 3 ∷ 0 ∷ 2 ∷ 0 ∷ 3 ∷ 2 ∷ 3 ∷ 0 ∷ 0 ∷ 0 ∷ 5 ∷ 0 ∷ 0 ∷ 0 ∷ 0 ∷ 0 ∷ 0 ∷ 0
+    ∷ 1 ∷ 0 ∷ 0 ∷ 0 ∷ 0 ∷ 0 ∷ 0 ∷ 0 ∷ 7 ∷ 0 ∷ 0 ∷ 0 ∷ 0 ∷ 0 ∷ 0 ∷ 0 ∷ 0 ∷ 0 ∷ 0 ∷ 0 ∷ 2 ∷ 0 ∷ 0 ∷ 0 ∷ 0 ∷ 0 ∷ 0 ∷ 0 ∷ 1 ∷ 2 ∷ 3 ∷ 4
+    ∷ 2 ∷ 0 ∷ 0 ∷ 0 ∷ 0 ∷ 0 ∷ 0 ∷ 0 ∷ 3 ∷ 0 ∷ 0 ∷ 0 ∷ 0 ∷ 0 ∷ 0 ∷ 0 ∷ 1 ∷ 0 ∷ 0 ∷ 0 ∷ 2 ∷ 0 ∷ 0 ∷ 0 ∷ 1 ∷ 0 ∷ 0 ∷ 0 ∷ 255 ∷ 255 ∷ 255 ∷ 255
+    ∷ 101 ∷ 102 ∷ 103 ∷ 104 ∷ 105 ∷ 106 ∷ 107 ∷ 108 ∷ 109 ∷ 110 ∷ 111 ∷ 112 ∷ 113 ∷ 114 ∷ 115 ∷ 116 ∷ 117 ∷ 0 ∷ 0 ∷ 0 ∷ 118 ∷ 0 ∷ 0 ∷ 0 ∷ 119 ∷ 120 ∷ 0 ∷ 0 ∷ 121 ∷ 122 ∷ 123 ∷ 124 ∷ []
+
+abbrev pub spareLowered : List ℕ
+spareLowered =
+    87 ∷ 65 ∷ 82 ∷ 77 ∷ 1 ∷ 3 ∷ 3 ∷ 0 ∷ 2 ∷ 0 ∷ 3 ∷ 2 ∷ 0 ∷ 0 ∷ 0 ∷ 0 ∷ 5 ∷ 0 ∷ 0 ∷ 0 ∷ 0 ∷ 0 ∷ 0 ∷ 0
+    ∷ 1 ∷ 0 ∷ 0 ∷ 0 ∷ 0 ∷ 0 ∷ 0 ∷ 0 ∷ 7 ∷ 0 ∷ 0 ∷ 0 ∷ 0 ∷ 0 ∷ 0 ∷ 0 ∷ 0 ∷ 2 ∷ 0 ∷ 0 ∷ 1 ∷ 2 ∷ 3 ∷ 4
+    ∷ 2 ∷ 0 ∷ 0 ∷ 0 ∷ 0 ∷ 0 ∷ 0 ∷ 0 ∷ 3 ∷ 0 ∷ 0 ∷ 0 ∷ 0 ∷ 0 ∷ 0 ∷ 0 ∷ 1 ∷ 2 ∷ 1 ∷ 0 ∷ 255 ∷ 255 ∷ 255 ∷ 255
+    ∷ 101 ∷ 102 ∷ 103 ∷ 104 ∷ 105 ∷ 106 ∷ 107 ∷ 108 ∷ 109 ∷ 110 ∷ 111 ∷ 112 ∷ 113 ∷ 114 ∷ 115 ∷ 116 ∷ 117 ∷ 121 ∷ 125 ∷ 126 ∷ 129 ∷ 130 ∷ 131 ∷ 132 ∷ []
+
+-- whether the first edition is wanted, a sheet, and the sheet in that edition
+pub record Conversion : Type 0 where
+  pub first : Bool
+  pub sheet : List ℕ
+  pub gives : List ℕ
+
+abbrev pub AllConverted : List Conversion → Type 0
+AllConverted [] = Unit {0}
+AllConverted (x ∷ xs) = (inEdition (x .first) (x .sheet) ≡ x .gives) × AllConverted xs
+
+abbrev conversion : Bool → List ℕ → List ℕ → Conversion
+conversion first s t = record { first = first; sheet = s; gives = t }
+
+-- up and down; down again what was taken up; and sheets that are of the wanted edition already
+unfoldable pub conversions : List Conversion
+conversions =
+    conversion false spareInFirst spareRaised
+    ∷ conversion true spareInSecond spareLowered
+    ∷ conversion true spareRaised spareInFirst
+    ∷ conversion true spareInFirst spareInFirst
+    ∷ conversion false spareInSecond spareInSecond
     ∷ []

@@ -19,13 +19,14 @@ use Rattle.format.specs.declared.ChamberStep.{ChamberStep}
 use Rattle.format.specs.declared.Summary.{Summary}
 use Rattle.format.specs.Answer.{Answer, Refused, Given, cause, unless}
 use Rattle.format.specs.Editions.{remade, inEdition, narrowed}
-use Rattle.format.specs.Format.{headerSize, chambersAt, sheetLength, isFirst, unitsOf, recordsOf, boundOf, startOf, oneSize, sizes, sizesList, chambersIn, recordOffset, stepIn, stepOf, limitsOf}
+use Rattle.format.specs.Format.{headerSize, longest, chambersAt, sheetLength, isFirst, unitsOf, recordsOf, boundOf, startOf, oneSize, sizes, sizesList, chambersIn, recordOffset, stepIn, stepOf, limitsOf}
 use Rattle.format.specs.Reading.{recordsOn, stepsOf, readCauses, ReaderNumber, campaignOf}
 use Rattle.format.specs.Stages.{summaryOf, summaryRead}
 use Rattle.format.specs.Writing.{widened}
 use Rattle.format.proofs.Answers.{refused-by, passed-by, none-left, unless-append, refused-whatever, given-passes, none-holds, passed-first, unless-given, numbered-append, Numbered}
 use Rattle.format.proofs.Converted.{was-whole, remade-next, remade-step, remade-chain, remade-steps, same-sizes, remade-passes}
 use Rattle.format.proofs.Readings.{numbered-read}
+use Rattle.format.proofs.Records.{length-most}
 use Rattle.format.proofs.Remade.{has-header, copied, made-over, remade-edition, remade-units, remade-records, remade-bound, remade-start, remade-sizes, remade-long, up-and-down}
 use Rattle.promises.specs.Common.{limitsOn, FeasibleOn}
 use Rattle.promises.specs.Convert.{outsideCauses, roomCauses, convertRefusals, convertAnswer}
@@ -67,6 +68,10 @@ converted-length first s {x} e = go (same-or-other (isFirst s) first)
     go : (isFirst s ≡ first) ⊎ (isFirst s ≡ not first) → length (inEdition first s) ≡ sheetLength first (x .header .records)
     go (inl same) = ap length (copied first s same) ∙ was-opened s e .sound .whole ∙ ap (λ (b : Bool). sheetLength b (x .header .records)) same
     go (inr other) = ap length (made-over first s other) ∙ remade-long first s (was-whole first s other e) ∙ ap (sheetLength first) header-is
+
+-- which is at the most that of the longest sheet
+pub converted-most : (first : Bool) (s : List ℕ) {x : Summary} → summaryRead s ≡ Given x → sheetLength first (x .header .records) ≤ longest
+converted-most first s {x} e = length-most first (x .header .records) (was-opened s e .sound .few-records)
 
 -- ---- the stages
 

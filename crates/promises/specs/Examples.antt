@@ -7,8 +7,8 @@ use mathlib.Core.List.{List, [], _∷_, _++_}
 use lib.ListN.{set, replicate}
 use Rattle.format.specs.declared.ChamberStep.{ChamberStep}
 use Rattle.format.specs.declared.Step.{Step}
-use Rattle.format.specs.Examples.{tagged, step, chambered, noStep, oneRecord, tagsAndUnused, chamberHeader, chamberRecord, four, noChamberStep, twoChambers, oneOfThird, notZero}
-use Rattle.format.specs.Writing.{headerBytes, recordBytes, sheetOf, numbersFrom, widened}
+use Rattle.format.specs.Examples.{tagged, step, chambered, noStep, oneRecord, tagsAndUnused, chamberHeader, chamberRecord, four, noChamberStep, twoChambers, oneOfThird, notZero, spareInFirst, spareInSecond, spareRaised, spareLowered}
+use Rattle.format.specs.Writing.{sheetOf, widened}
 use Rattle.promises.specs.declared.Reply.{Reply}
 use Rattle.promises.specs.declared.StepsReply.{StepsReply}
 use Rattle.promises.specs.declared.Written.{Written}
@@ -50,16 +50,6 @@ oneOfEach bound start = chamberHeader 4 2 1 bound (four 2 0 2 0) start ++ chambe
 -- Three units, two in chamber 1 and one in chamber 3, which is full in the one step: its unit must be on. At most one of the others may be.
 abbrev pub fullChamber : List ℕ
 fullChamber = chamberHeader 3 1 1 3 (four 2 0 1 0) 0 ++ chamberRecord (chambered 0 7 (four 0 0 1 0) (four 1 0 1 0) 0 0) 0
-
--- Three units in one chamber, and three records, of which the second is the first step, the first is the second and last, and the third, with a byte of its own in each place, is
--- unused: in edition 1, and in edition 2, where the steps also have greatest numbers for chambers that have no unit.
-abbrev pub spareInFirst : List ℕ
-spareInFirst = headerBytes 3 3 2 515 5 ++ recordBytes (tagged 1 7 0 2 67305985) 0 ++ recordBytes (tagged 2 3 1 2 4294967295) 1 ++ numbersFrom 101 24
-
-abbrev pub spareInSecond : List ℕ
-spareInSecond =
-    chamberHeader 3 3 2 515 (four 3 0 0 0) 5 ++ chamberRecord (chambered 1 7 (four 0 0 0 0) (four 2 17 34 51) 0 67305985) 0
-    ++ chamberRecord (chambered 2 3 (four 1 0 0 0) (four 2 0 0 255) 0 4294967295) 1 ++ numbersFrom 101 32
 
 -- Four runs in edition 2, with a bound.
 abbrev pub raisedRuns : ℕ → List ℕ
@@ -228,21 +218,13 @@ chamberings =
     ∷ chart (twoChambers oneOfThird notZero) nines threeNines (refusedReply 14 2) nines threeNines
     ∷ []
 
--- Sheets in the other edition, byte by byte, into outputs with one place more: going up, and going down. Four runs in edition 2, whatever the bound, and a sheet without a step.
+-- Sheets in the other edition, into outputs with one place more: going up, and going down. Four runs in edition 2, whatever the bound, and a sheet without a step.
 -- Sheets of the wanted edition are copied, also with units in several chambers. Then refusals: of the reader, 14 before 15, 15 before 8, and 8 for outputs that are one byte too short,
 -- whichever way. Plan and chart of Four runs in edition 2 are those of the benches.
 unfoldable pub conversions : List Example
 conversions =
-    convert false spareInFirst (replicate 121 9) (fullWritten 120)
-    (87 ∷ 65 ∷ 82 ∷ 77 ∷ 2 ∷ 3 ∷ 3 ∷ 0 ∷ 2 ∷ 0 ∷ 3 ∷ 2 ∷ 3 ∷ 0 ∷ 0 ∷ 0 ∷ 5 ∷ 0 ∷ 0 ∷ 0 ∷ 0 ∷ 0 ∷ 0 ∷ 0
-    ∷ 1 ∷ 0 ∷ 0 ∷ 0 ∷ 0 ∷ 0 ∷ 0 ∷ 0 ∷ 7 ∷ 0 ∷ 0 ∷ 0 ∷ 0 ∷ 0 ∷ 0 ∷ 0 ∷ 0 ∷ 0 ∷ 0 ∷ 0 ∷ 2 ∷ 0 ∷ 0 ∷ 0 ∷ 0 ∷ 0 ∷ 0 ∷ 0 ∷ 1 ∷ 2 ∷ 3 ∷ 4
-    ∷ 2 ∷ 0 ∷ 0 ∷ 0 ∷ 0 ∷ 0 ∷ 0 ∷ 0 ∷ 3 ∷ 0 ∷ 0 ∷ 0 ∷ 0 ∷ 0 ∷ 0 ∷ 0 ∷ 1 ∷ 0 ∷ 0 ∷ 0 ∷ 2 ∷ 0 ∷ 0 ∷ 0 ∷ 1 ∷ 0 ∷ 0 ∷ 0 ∷ 255 ∷ 255 ∷ 255 ∷ 255
-    ∷ 101 ∷ 102 ∷ 103 ∷ 104 ∷ 105 ∷ 106 ∷ 107 ∷ 108 ∷ 109 ∷ 110 ∷ 111 ∷ 112 ∷ 113 ∷ 114 ∷ 115 ∷ 116 ∷ 117 ∷ 0 ∷ 0 ∷ 0 ∷ 118 ∷ 0 ∷ 0 ∷ 0 ∷ 119 ∷ 120 ∷ 0 ∷ 0 ∷ 121 ∷ 122 ∷ 123 ∷ 124 ∷ 9 ∷ [])
-    ∷ convert true spareInSecond (replicate 97 9) (fullWritten 96)
-    (87 ∷ 65 ∷ 82 ∷ 77 ∷ 1 ∷ 3 ∷ 3 ∷ 0 ∷ 2 ∷ 0 ∷ 3 ∷ 2 ∷ 0 ∷ 0 ∷ 0 ∷ 0 ∷ 5 ∷ 0 ∷ 0 ∷ 0 ∷ 0 ∷ 0 ∷ 0 ∷ 0
-    ∷ 1 ∷ 0 ∷ 0 ∷ 0 ∷ 0 ∷ 0 ∷ 0 ∷ 0 ∷ 7 ∷ 0 ∷ 0 ∷ 0 ∷ 0 ∷ 0 ∷ 0 ∷ 0 ∷ 0 ∷ 2 ∷ 0 ∷ 0 ∷ 1 ∷ 2 ∷ 3 ∷ 4
-    ∷ 2 ∷ 0 ∷ 0 ∷ 0 ∷ 0 ∷ 0 ∷ 0 ∷ 0 ∷ 3 ∷ 0 ∷ 0 ∷ 0 ∷ 0 ∷ 0 ∷ 0 ∷ 0 ∷ 1 ∷ 2 ∷ 1 ∷ 0 ∷ 255 ∷ 255 ∷ 255 ∷ 255
-    ∷ 101 ∷ 102 ∷ 103 ∷ 104 ∷ 105 ∷ 106 ∷ 107 ∷ 108 ∷ 109 ∷ 110 ∷ 111 ∷ 112 ∷ 113 ∷ 114 ∷ 115 ∷ 116 ∷ 117 ∷ 121 ∷ 125 ∷ 126 ∷ 129 ∷ 130 ∷ 131 ∷ 132 ∷ 9 ∷ [])
+    convert false spareInFirst (replicate 121 9) (fullWritten 120) (spareRaised ++ (9 ∷ []))
+    ∷ convert true spareInSecond (replicate 97 9) (fullWritten 96) (spareLowered ++ (9 ∷ []))
     ∷ convert false (fourRuns 2 0) (replicate 152 9) (fullWritten 152) (raisedRuns 2)
     ∷ convert true (raisedRuns 2) (replicate 120 9) (fullWritten 120) (fourRuns 2 0)
     ∷ convert false noStep (replicate 24 9) (fullWritten 24) (noChamberStep 1 (four 1 0 0 0))

@@ -28,7 +28,7 @@ pub fn put_text(text: &[u8], out: &mut [u8], at: usize) -> usize
 }
 
 // The two lowest bytes of a number, the lowest first; then the four, and all eight.
-pub(crate) fn put_u16(x: u64, out: &mut [u8], at: usize) -> usize
+pub fn put_u16(x: u64, out: &mut [u8], at: usize) -> usize
     requires { ⌜ at + 2 ≤ length (now out) ⌝ }
     ensures { λ r. ⌜ Placed (bytesOf 2 x) (now (out .entry)) at (now (out .exit)) r ⌝ }
 {
@@ -36,7 +36,7 @@ pub(crate) fn put_u16(x: u64, out: &mut [u8], at: usize) -> usize
     put_byte((x / 256 % 256) as u8, out, next)
 }
 
-pub(crate) fn put_u32(x: u64, out: &mut [u8], at: usize) -> usize
+pub fn put_u32(x: u64, out: &mut [u8], at: usize) -> usize
     requires { ⌜ at + 4 ≤ length (now out) ⌝ }
     ensures { λ r. ⌜ Placed (bytesOf 4 x) (now (out .entry)) at (now (out .exit)) r ⌝ }
 {
@@ -44,7 +44,7 @@ pub(crate) fn put_u32(x: u64, out: &mut [u8], at: usize) -> usize
     put_u16(x / 65536, out, next)
 }
 
-pub(crate) fn put_u64(x: u64, out: &mut [u8], at: usize) -> usize
+pub fn put_u64(x: u64, out: &mut [u8], at: usize) -> usize
     requires { ⌜ at + 8 ≤ length (now out) ⌝ }
     ensures { λ r. ⌜ Placed (bytesOf 8 x) (now (out .entry)) at (now (out .exit)) r ⌝ }
 {

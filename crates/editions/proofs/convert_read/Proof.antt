@@ -5,13 +5,13 @@ use Prim.Native.Nat.{ℕ, _≤_}
 use native.Mathlib.Omega.{arith}
 use denote.Ref.{now}
 use lib.ListN.{length}
-use Rattle.format.specs.Editions.{inEdition}
-use Rattle.format.specs.Format.{chambersAt, sheetLength}
-use Rattle.format.proofs.Records.{length-most}
 use Rattle.plans.proofs.Laid.{sets-first}
+use Rattle.format.specs.declared.Summary.{Summary}
+use Rattle.format.specs.Editions.{inEdition}
+use Rattle.format.specs.Format.{chambersAt, sheetLength, isFirst}
 use Rattle.promises.specs.declared.Written.{Written}
 use Rattle.promises.specs.Write.{refusedWritten, fullWritten, wrote}
-use Rattle.promises.proofs.Converts.{converted-length, convert-outside, convert-short, convert-given}
+use Rattle.promises.proofs.Converts.{converted-length, converted-most, convert-outside, convert-short, convert-given}
 use Rattle.promises.proofs.Read.{was-opened}
 use borrow.Author.Needs.{needs}
 use Rattle.editions.proofs.convert_read.Statement.{statement}
@@ -29,26 +29,26 @@ write-refused-requires c κs = search needs
 returns : tie.Need-returns
 unfolding wrote
 returns c =
-    let k = c .before .before .before .before .before .before in
-    let s = now (k .args .sheet) in
+    let k = c .before .before .before .before .before in
     let out = now (k .args .out) in
     let refused : c .write-refused .result ≡ refusedWritten 15 chambersAt = c .write-refused .ensures in
     ap (λ r. (r, out)) refused
-    ∙ ap (wrote out) (convert-outside (k .args .first) s (length out) (k .pre) (sym (c .before .before .leaves-out .ensures) ∙ c .before .if1 .taken))
+    ∙ ap (wrote out) (convert-outside (k .args .first) (now (k .args .sheet)) (length out) (k .pre) (sym (c .before .before .leaves-out .ensures) ∙ c .before .if1 .taken))
 
-cast-records : tie.Need-cast-records
-cast-records c = search needs
+record-count-requires : tie.Need-record-count-requires
+record-count-requires c κs = search needs
 
--- a sheet that was read is no longer than the longest, in either edition
 sheet-length-requires : tie.Need-sheet-length-requires
 sheet-length-requires c κs =
-    let k = c .before .before .before .before .before .before in
-    omega (arith, length-most (k .args .first) (k .args .x .header .records) (was-opened (now (k .args .sheet)) (k .pre) .sound .few-records))
+    let k = c .before .before .before .before .before in
+    omega (arith, ap (sheetLength (k .args .first)) (c .record-count .ensures), converted-most (k .args .first) (now (k .args .sheet)) (k .pre))
 
+-- the length of the converted sheet, which is at the most that of the longest sheet
 cast-write-refused-2 : tie.Need-cast-write-refused-2
 cast-write-refused-2 c =
-    let k = c .before .before .before .before .before .before .before .before in
-    record { fits = omega (arith, c .before .sheet-length .ensures, length-most (k .args .first) (k .args .x .header .records) (was-opened (now (k .args .sheet)) (k .pre) .sound .few-records)) }
+    let k = c .before .before .before .before .before .before .before in
+    let long = c .before .sheet-length .ensures ∙ ap (sheetLength (k .args .first)) (c .before .before .record-count .ensures) in
+    record { fits = omega (arith, long, converted-most (k .args .first) (now (k .args .sheet)) (k .pre)) }
 
 write-refused-requires-2 : tie.Need-write-refused-requires-2
 write-refused-requires-2 c κs = search needs
@@ -56,25 +56,28 @@ write-refused-requires-2 c κs = search needs
 returns-2 : tie.Need-returns-2
 unfolding wrote
 returns-2 c =
-    let k = c .before .before .before .before .before .before .before .before .before in
-    let s = now (k .args .sheet) in
+    let k = c .before .before .before .before .before .before .before .before in
     let out = now (k .args .out) in
-    let long = c .before .before .sheet-length .ensures in
+    let long = c .before .before .sheet-length .ensures ∙ ap (sheetLength (k .args .first)) (c .before .before .before .record-count .ensures) in
     let refused : c .write-refused2 .result ≡ refusedWritten 8 (c .before .before .sheet-length .result) = c .write-refused2 .ensures in
     let inside = sym (c .before .before .before .before .before .leaves-out .ensures) ∙ c .before .before .before .before .if1 .left in
     ap (λ r. (r, out)) (refused ∙ ap (refusedWritten 8) long)
-    ∙ ap (wrote out) (convert-short (k .args .first) s (length out) (k .pre) inside (omega (arith, long, c .before .if2 .taken)))
+    ∙ ap (wrote out) (convert-short (k .args .first) (now (k .args .sheet)) (length out) (k .pre) inside (omega (arith, long, c .before .if2 .taken)))
 
 put-sheet-requires : tie.Need-put-sheet-requires
 put-sheet-requires c κs =
-    let k = c .before .before .before .before .before .before .before .before .before in
-    let o = was-opened (now (k .args .sheet)) (k .pre) in
-    (sym (ap (λ y. y .header .records) (o .summary)), (o .sound .few-records, (o .sound .whole, omega (arith, c .before .before .sheet-length .ensures, c .before .if2 .left))))
+    let k = c .before .before .before .before .before .before .before .before in
+    let records = c .before .before .before .record-count .ensures in
+    let o = was-opened (now (k .args .sheet)) (k .pre) in (
+      records ∙ sym (ap (λ (y : Summary). y .header .records) (o .summary)),
+      (omega (arith, records, o .sound .few-records), (o .sound .whole ∙ ap (sheetLength (isFirst (now (k .args .sheet)))) (sym records), omega (arith, c .before .before .sheet-length .ensures, c .before .if2 .left))),
+    )
 
-cast-t16 : tie.Need-cast-t16
-cast-t16 c =
-    let k = c .before .before .before .before .before .before .before .before .before .before .before .before in
-    record { fits = omega (arith, c .before .before .before .before .before .sheet-length .ensures, length-most (k .args .first) (k .args .x .header .records) (was-opened (now (k .args .sheet)) (k .pre) .sound .few-records)) }
+cast-t15 : tie.Need-cast-t15
+cast-t15 c =
+    let k = c .before .before .before .before .before .before .before .before .before .before .before in
+    let long = c .before .before .before .before .before .sheet-length .ensures ∙ ap (sheetLength (k .args .first)) (c .before .before .before .before .before .before .record-count .ensures) in
+    record { fits = omega (arith, long, converted-most (k .args .first) (now (k .args .sheet)) (k .pre)) }
 
 same-length : tie.Need-same-length
 same-length c = search needs
@@ -82,14 +85,14 @@ same-length c = search needs
 returns-3 : tie.Need-returns-3
 unfolding wrote
 returns-3 c =
-    let k = c .before .before .before .before .before .before .before .before .before .before .before .before in
+    let k = c .before .before .before .before .before .before .before .before .before .before .before in
     let s = now (k .args .sheet) in
     let out = now (k .args .out) in
     let first = k .args .first in
-    let length-is = c .before .before .before .before .before .sheet-length .ensures ∙ sym (converted-length first s (k .pre)) in
-    let room : sheetLength first (k .args .x .header .records) ≤ length out = omega (arith, c .before .before .before .before .before .sheet-length .ensures, c .before .before .before .before .if2 .left) in
+    let long = c .before .before .before .before .before .sheet-length .ensures ∙ ap (sheetLength first) (c .before .before .before .before .before .before .record-count .ensures) in
+    let room : sheetLength first (k .args .x .header .records) ≤ length out = omega (arith, long, c .before .before .before .before .if2 .left) in
     let inside = sym (c .before .before .before .before .before .before .before .before .leaves-out .ensures) ∙ c .before .before .before .before .before .before .before .if1 .left in
-    ap₂ {C = Written × List ℕ} (λ (n : ℕ) l. (fullWritten n, l)) length-is
+    ap₂ {C = Written × List ℕ} (λ (n : ℕ) l. (fullWritten n, l)) (long ∙ sym (converted-length first s (k .pre)))
     (c .before .before .put-sheet .ensures ∙ sets-first (inEdition first s) out (omega (arith, converted-length first s (k .pre), room)))
     ∙ ap (wrote out) (convert-given first s (length out) (k .pre) inside room)
 
@@ -101,12 +104,12 @@ convert-read-spec =
     cast-write-refused
     write-refused-requires
     returns
-    cast-records
+    record-count-requires
     sheet-length-requires
     cast-write-refused-2
     write-refused-requires-2
     returns-2
     put-sheet-requires
-    cast-t16
+    cast-t15
     same-length
     returns-3)
