@@ -63,6 +63,8 @@ extern "C" {
     pub fn warm_verdict(sheet: *const u8, sheet_len: usize, plan: *const u64, plan_len: usize) -> Reply;
     pub fn warm_chart(sheet: *const u8, sheet_len: usize, on: *mut u64, on_len: usize, off: *mut u64, off_len: usize) -> Reply;
     pub fn warm_write(units: u8, bound: u16, start: u64, steps: *const Step, steps_len: usize, sheet: *mut u8, sheet_len: usize) -> Written;
+    pub fn warm_to_edition_1(sheet: *const u8, sheet_len: usize, out: *mut u8, out_len: usize) -> Written;
+    pub fn warm_to_edition_2(sheet: *const u8, sheet_len: usize, out: *mut u8, out_len: usize) -> Written;
 }
 
 pub fn steps(sheet: &[u8], list: &mut [ChamberStep]) -> StepsReply {
@@ -83,4 +85,12 @@ pub fn chart(sheet: &[u8], on: &mut [u64], off: &mut [u64]) -> Reply {
 
 pub fn write(units: u8, bound: u16, start: u64, steps: &[Step], out: &mut [u8]) -> Written {
     unsafe { warm_write(units, bound, start, steps.as_ptr(), steps.len(), out.as_mut_ptr(), out.len()) }
+}
+
+pub fn to_edition_1(sheet: &[u8], out: &mut [u8]) -> Written {
+    unsafe { warm_to_edition_1(sheet.as_ptr(), sheet.len(), out.as_mut_ptr(), out.len()) }
+}
+
+pub fn to_edition_2(sheet: &[u8], out: &mut [u8]) -> Written {
+    unsafe { warm_to_edition_2(sheet.as_ptr(), sheet.len(), out.as_mut_ptr(), out.len()) }
 }

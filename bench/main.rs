@@ -1,4 +1,4 @@
-// The benchmark: times of the five entries beside plain Rust, and of the plan beside a scan of single steps, for sheets of both editions, growth, and
+// The benchmark: times of the seven entries beside plain Rust, and of the plan beside a scan of single steps, for sheets of both editions, growth, and
 // stack; with another archive, its times as well. bench/run builds and starts it, with the stack limits as arguments (NAME BYTES ...). docs/FORMAT.md has
 // the entries.
 mod families;
@@ -26,8 +26,10 @@ const ROWS: [(Entry, u32, &str); 6] = [
     (Entry::Chart, 1, "chart, slack 1"),
     (Entry::Chart, 2, "chart, slack 2"),
 ];
-// Write has no bound to keep to, and a row only for some numbers of steps.
+// Write has no bound to keep to, and a row only for some numbers of steps. Conversions have one for a full sheet of the other edition.
 const WRITE_ROW: [(Entry, u32, &str); 1] = [(Entry::Write, 0, "write")];
+const UP_ROW: [(Entry, u32, &str); 1] = [(Entry::ToEdition2, 0, "to edition 2")];
+const DOWN_ROW: [(Entry, u32, &str); 1] = [(Entry::ToEdition1, 0, "to edition 1")];
 const GROWTH_ROWS: [(Entry, u32, &str); 4] = [ROWS[1], ROWS[3], ROWS[4], ROWS[5]];
 
 // The most work for the tables of the chart, the most for the plan, and a common sheet.
@@ -65,20 +67,25 @@ fn time_cases() -> Vec<Case> {
     sized(256, 64).into_iter().chain(sized(32, 16)).chain([four]).collect()
 }
 
-// Full sheets of edition 2. The name of a family is that of a chamber.
+// A full sheet of edition 2. The name of the family is that of a chamber.
+fn chamber_case(family: Family, rack: [u32; CHAMBERS]) -> Case {
+    let units = format!("{} of {}", rack.iter().filter(|&&size| size > 0).count(), rack[0]);
+    Case { family: family.name(rack[0]), steps: 256, units, sheet: family.sheet_in(256, rack, &mut Random::new()) }
+}
+
 fn chamber_cases() -> Vec<Case> {
-    let of = |rack: [u32; CHAMBERS]| {
-        let units = format!("{} of {}", rack.iter().filter(|&&size| size > 0).count(), rack[0]);
-        let sheet = |family: Family| family.sheet_in(256, rack, &mut Random::new());
-        Family::ALL.map(|family| Case { family: family.name(rack[0]), steps: 256, units: units.clone(), sheet: sheet(family) })
-    };
-    RACKS.into_iter().flat_map(of).collect()
+    RACKS.into_iter().flat_map(|rack| Family::ALL.map(|family| chamber_case(family, rack))).collect()
 }
 
 // Of each number of steps one sheet, as the time does not depend on what is in it.
 fn write_cases() -> Vec<Case> {
     let four = Case { family: "Four runs".into(), steps: 4, units: "3".into(), sheet: four_runs() };
     [(256, 64), (32, 16), (16, 16)].map(|(steps, units)| case(Family::Random, steps, units)).into_iter().chain([four]).collect()
+}
+
+// A full sheet to convert to edition 2, and one to convert to edition 1.
+fn up_and_down_cases() -> [[Case; 1]; 2] {
+    [[case(Family::Random, 256, 64)], [chamber_case(Family::Random, RACKS[1])]]
 }
 
 fn growth_cases() -> Vec<Case> {
@@ -119,18 +126,19 @@ fn some_chambers(random: &mut Random) -> [u32; CHAMBERS] {
     }
 }
 
-// Drawn sheets of any size, first of edition 1 and then of edition 2, sound and then with a change, for the comparison and the stack.
+// Drawn sheets of any size, first of edition 1, then of edition 2, and then of edition 2 with all units in chamber 1, sound and then with a change, for the
+// comparison and the stack.
 fn check_drawn(checker: &mut Checker) {
     let mut random = Random::new();
-    for i in 0..600 {
+    for i in 0..900 {
         let family = Family::ALL[random.below(Family::ALL.len() as u32) as usize];
         let steps = some_steps(&mut random);
-        let sheet = if i < 300 {
-            family.sheet(steps, 4 + random.below(61), &mut random)
-        } else {
-            family.sheet_in(steps, some_chambers(&mut random), &mut random)
+        let sheet = match i {
+            0..300 => family.sheet(steps, 4 + random.below(61), &mut random),
+            300..600 => family.sheet_in(steps, some_chambers(&mut random), &mut random),
+            _ => family.sheet_in(steps, [4 + random.below(61), 0, 0, 0], &mut random),
         };
-        for (entry, slack, label) in ROWS.into_iter().chain(WRITE_ROW) {
+        for (entry, slack, label) in ROWS.into_iter().chain(WRITE_ROW).chain(UP_ROW).chain(DOWN_ROW) {
             let mut task = task(entry, &sheet, slack);
             checker.compare(&format!("a drawn sheet, {label}"), &task);
             task.damage(&mut random);
@@ -239,11 +247,11 @@ fn limit(arguments: &[String], name: &str) -> usize {
 fn print_stack(checker: &Checker, arguments: &[String]) {
     println!("\nStack of a call in bytes, its return address included: the deepest of {} painted calls, and the limit that", grouped(&checker.calls.to_string()));
     println!("bench/stack sums from the disassembly.\n");
-    println!("| entry        | measured |  limit |");
-    println!("|:-------------|---------:|-------:|");
+    println!("| entry             | measured |  limit |");
+    println!("|:------------------|---------:|-------:|");
     for entry in Entry::ALL {
         let (name, measured, limit) = (entry.name(), checker.deepest[entry as usize], limit(arguments, entry.symbol()));
-        println!("| {name:12} | {:>8} | {:>6} |", grouped(&measured.to_string()), grouped(&limit.to_string()));
+        println!("| {name:17} | {:>8} | {:>6} |", grouped(&measured.to_string()), grouped(&limit.to_string()));
         assert!(measured <= limit, "{name} used more stack than its limit");
     }
 }
@@ -253,9 +261,12 @@ fn main() {
     let mut checker = Checker::new();
     check_drawn(&mut checker);
     let (times, writes, in_chambers, growth) = (time_cases(), write_cases(), chamber_cases(), growth_cases());
+    let [up, down] = up_and_down_cases();
     let mut time_rows = checked_rows(&mut checker, &times, &ROWS);
     time_rows.extend(checked_rows(&mut checker, &writes, &WRITE_ROW));
-    let chamber_rows = checked_rows(&mut checker, &in_chambers, &ROWS);
+    time_rows.extend(checked_rows(&mut checker, &up, &UP_ROW));
+    let mut chamber_rows = checked_rows(&mut checker, &in_chambers, &ROWS);
+    chamber_rows.extend(checked_rows(&mut checker, &down, &DOWN_ROW));
     let growth_rows = checked_rows(&mut checker, &growth, &GROWTH_ROWS);
     print_times(&time_rows);
     print_clearing(&time_rows);

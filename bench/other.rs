@@ -1,5 +1,5 @@
 // Another archive beside the library, for times in turns. bench/run puts `other_` before the names of its entries. One of version 1 has another steps list,
-// and knows edition 1 alone.
+// and knows edition 1 alone; one that is older than the conversions has none.
 use crate::library::{Reply, Step, Written};
 use crate::task::{call_library, Entry, Handed, Outputs, Task};
 
@@ -27,11 +27,18 @@ extern "C" {
     fn other_warm_verdict(sheet: *const u8, sheet_len: usize, plan: *const u64, plan_len: usize) -> Reply;
     fn other_warm_chart(sheet: *const u8, sheet_len: usize, on: *mut u64, on_len: usize, off: *mut u64, off_len: usize) -> Reply;
     fn other_warm_write(units: u8, bound: u16, start: u64, steps: *const Step, steps_len: usize, sheet: *mut u8, sheet_len: usize) -> Written;
+    #[cfg(other_converts)]
+    fn other_warm_to_edition_1(sheet: *const u8, sheet_len: usize, out: *mut u8, out_len: usize) -> Written;
+    #[cfg(other_converts)]
+    fn other_warm_to_edition_2(sheet: *const u8, sheet_len: usize, out: *mut u8, out_len: usize) -> Written;
 }
 
 // Whether the other archive can be asked for this: one of version 1 refuses sheets of edition 2.
 pub fn knows(task: &Task) -> bool {
-    cfg!(other_steps_2) || task.sheet[4] == 1
+    match task.entry {
+        Entry::ToEdition1 | Entry::ToEdition2 => cfg!(other_converts),
+        _ => cfg!(other_steps_2) || task.sheet[4] == 1,
+    }
 }
 
 // The call of the other archive. Its steps go where the library's go, whatever the length of a place.
@@ -52,9 +59,15 @@ pub fn call(task: &Task, out: &mut Outputs) {
                 out.reply = other_warm_chart(sheet, len, on.as_mut_ptr(), on.len(), off.as_mut_ptr(), off.len());
             }
             Entry::Write => {
-                let Handed { units, bound, start, ref steps, places } = task.handed;
-                out.written = other_warm_write(units, bound, start, steps.as_ptr(), steps.len(), out.sheet.as_mut_ptr(), places);
+                let Handed { units, bound, start, ref steps } = task.handed;
+                out.written = other_warm_write(units, bound, start, steps.as_ptr(), steps.len(), out.sheet.as_mut_ptr(), task.places);
             }
+            #[cfg(other_converts)]
+            Entry::ToEdition1 => out.written = other_warm_to_edition_1(sheet, len, out.sheet.as_mut_ptr(), task.places),
+            #[cfg(other_converts)]
+            Entry::ToEdition2 => out.written = other_warm_to_edition_2(sheet, len, out.sheet.as_mut_ptr(), task.places),
+            #[cfg(not(other_converts))]
+            Entry::ToEdition1 | Entry::ToEdition2 => unreachable!("the other archive does not convert"),
         }
     }
 }

@@ -1,4 +1,4 @@
-// The five entries in plain Rust: the same checks, walks, choices and replies as the library, for comparison. docs/FORMAT.md has the sheet,
+// The seven entries in plain Rust: the same checks, walks, choices and replies as the library, for comparison. docs/FORMAT.md has the sheet,
 // the refusals and the planner. A chamber is planned by itself, and the parts are joined. The chart is in plain_chart.rs; it uses the columns of the
 // plan. scan.rs has another way to make a plan.
 #![forbid(unsafe_code)]
@@ -550,6 +550,48 @@ fn written(units: u8, bound: u16, start: u64, steps: &[Step], out: &mut [u8]) ->
     Ok(Written { length: length as u32, ..Default::default() })
 }
 
+// A record of the other edition, in this one.
+fn convert_record<const EDITION: u8>(from: &[u8], to: &mut [u8]) {
+    to[0..16].copy_from_slice(&from[0..16]);
+    if EDITION == 1 {
+        to[16] = from[16];
+        to[17] = from[20];
+        to[18..20].copy_from_slice(&from[24..26]);
+        to[20..24].copy_from_slice(&from[28..32]);
+    } else {
+        to[16..20].copy_from_slice(&(from[16] as u32).to_le_bytes());
+        to[20..24].copy_from_slice(&(from[17] as u32).to_le_bytes());
+        to[24..28].copy_from_slice(&(u16_at(from, 18) as u32).to_le_bytes());
+        to[28..32].copy_from_slice(&from[20..24]);
+    }
+}
+
+// The sheet in this edition, into the first bytes of the output.
+fn converted<const EDITION: u8>(sheet: &[u8], out: &mut [u8]) -> Result<Written, Refusal> {
+    let x = read(sheet)?;
+    if EDITION == 1 && (x.sizes[0] as u32) < x.units {
+        return Err(Refusal(15, 12));
+    }
+    let records = u16_at(sheet, 6);
+    let (size, other) = (record_size(EDITION), record_size(3 - EDITION));
+    let length = 24 + size * records;
+    if out.len() < length {
+        return Err(Refusal(8, length as u32));
+    }
+    let out = &mut out[..length];
+    if sheet[4] == EDITION {
+        out.copy_from_slice(sheet);
+    } else {
+        out[0..24].copy_from_slice(&sheet[0..24]);
+        out[4] = EDITION;
+        out[12..16].copy_from_slice(&if EDITION == 1 { [0; 4] } else { [sheet[5], 0, 0, 0] });
+        for (from, to) in sheet[24..].chunks_exact(other).zip(out[24..].chunks_exact_mut(size)) {
+            convert_record::<EDITION>(from, to);
+        }
+    }
+    Ok(Written { length: length as u32, ..Default::default() })
+}
+
 pub fn refused(Refusal(refusal, place): Refusal) -> Reply {
     Reply { refusal, place, ..Default::default() }
 }
@@ -574,7 +616,21 @@ pub fn chart(sheet: &[u8], on: &mut [u64], off: &mut [u64]) -> Reply {
     chart_reply(sheet, on, off).unwrap_or_else(refused)
 }
 
+fn not_written(Refusal(refusal, place): Refusal) -> Written {
+    Written { refusal, place, ..Default::default() }
+}
+
 #[inline(never)]
 pub fn write(units: u8, bound: u16, start: u64, steps: &[Step], out: &mut [u8]) -> Written {
-    written(units, bound, start, steps, out).unwrap_or_else(|Refusal(refusal, place)| Written { refusal, place, ..Default::default() })
+    written(units, bound, start, steps, out).unwrap_or_else(not_written)
+}
+
+#[inline(never)]
+pub fn to_edition_1(sheet: &[u8], out: &mut [u8]) -> Written {
+    converted::<1>(sheet, out).unwrap_or_else(not_written)
+}
+
+#[inline(never)]
+pub fn to_edition_2(sheet: &[u8], out: &mut [u8]) -> Written {
+    converted::<2>(sheet, out).unwrap_or_else(not_written)
 }

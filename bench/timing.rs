@@ -16,7 +16,7 @@ pub struct Times {
 // Compares calls, and keeps the deepest stack of each entry.
 pub struct Checker {
     painted: Painted,
-    pub deepest: [usize; 5],
+    pub deepest: [usize; Entry::ALL.len()],
     pub calls: usize,
 }
 
@@ -31,14 +31,14 @@ fn must_equal(ours: &Outputs, what: &str, task: &Task, caller: Caller, name: &st
     let mut theirs = Outputs::new();
     caller(task, &mut theirs);
     if *ours != theirs {
-        eprintln!("bench: {} differs from {name} on {what}\nsheet {:02x?}\n{:?}", task.entry.name(), task.sheet, task.handed);
+        eprintln!("bench: {} differs from {name} on {what}\nsheet {:02x?}\n{:?}, {} bytes", task.entry.name(), task.sheet, task.handed, task.places);
         std::process::exit(1);
     }
 }
 
 impl Checker {
     pub fn new() -> Checker {
-        Checker { painted: Painted::new(), deepest: [0; 5], calls: 0 }
+        Checker { painted: Painted::new(), deepest: [0; Entry::ALL.len()], calls: 0 }
     }
 
     // Stops the program if the library differs from plain Rust or from the scan in its reply or in any lent memory.

@@ -7,6 +7,7 @@
  *     cc -Iinclude examples/plan.c target/staticlib/libwarm.a -o target/c/plan
  *     target/c/plan <examples/four_runs.sheet
  */
+#include "refused.h"
 #include "warm.h"
 
 #include <inttypes.h>
@@ -20,38 +21,6 @@ static void print_units(uint64_t set)
     for (unsigned u = 0; u < WARM_UNITS; u++)
         if (set >> u & 1)
             printf(" %u", u);
-}
-
-/* The line of a refusal, as in "refused 5 at record 4: the next record is already on the chain". */
-static int refused(uint32_t number, uint32_t place)
-{
-    fprintf(stderr, "refused %" PRIu32, number);
-    switch (warm_place_of(number)) {
-    case WARM_PLACE_BYTE:
-        fprintf(stderr, " at byte %" PRIu32, place);
-        break;
-    case WARM_PLACE_RECORD:
-        if (place == 0)
-            fprintf(stderr, " at the header");
-        else
-            fprintf(stderr, " at record %" PRIu32, place);
-        break;
-    case WARM_PLACE_STEP:
-        fprintf(stderr, " at step %" PRIu32, place);
-        break;
-    case WARM_PLACE_UNKNOWN:
-        fprintf(stderr, " with place %" PRIu32, place);
-        break;
-    case WARM_PLACE_COUNT:
-    case WARM_PLACE_WHOLE:
-    default:
-        break;
-    }
-    fprintf(stderr, ": %s", warm_cause(number, place));
-    if (warm_place_of(number) == WARM_PLACE_COUNT)
-        fprintf(stderr, " (%" PRIu32 ")", place);
-    fprintf(stderr, "\n");
-    return 1;
 }
 
 int main(int argc, char **argv)

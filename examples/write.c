@@ -7,16 +7,11 @@
  *     cc -Iinclude examples/write.c target/staticlib/libwarm.a -o target/c/write
  *     target/c/write
  */
+#include "refused.h"
 #include "warm.h"
 
 #include <inttypes.h>
 #include <stdio.h>
-
-static int refused(uint32_t refusal, uint32_t place)
-{
-    fprintf(stderr, "refused %" PRIu32 ": %s\n", refusal, warm_cause(refusal, place));
-    return 1;
-}
 
 int main(void)
 {

@@ -20,8 +20,8 @@
  *
  * Units are dealt out to the chambers in order, and a chamber may be empty; in edition 1 all are in chamber 1. Records have the numbers 1 to r. The
  * steps are the first record, its next one, and so on; a record that is not reached may hold anything. docs/FORMAT.md says all this at more length.
- * warm_write makes a sheet of edition 1 from steps. No call needs a sheet that was checked before: any bytes of any length get a full reply or one
- * refusal.
+ * warm_write makes a sheet of edition 1 from steps; warm_to_edition_1 and warm_to_edition_2 convert a sheet of the other edition. No call needs a
+ * sheet that was checked before: any bytes of any length get a full reply or one refusal.
  *
  * A set is feasible in a step if it includes the lower set, lies within the upper set, and has in each chamber a number of units from that chamber's
  * least to its greatest number. Where there is such a set, the least size of one is the sum, over the chambers, of the greater of the least number
@@ -52,18 +52,21 @@
  *   14       bytes 26 to 27 of the step's record are not zero in edition 2                               step, from 1
  *   6        the upper set has a unit that the sheet has not                                             step, from 1
  *   7        no set of units is feasible in the step                                                     step, from 1
- *   8        an output has fewer places than there are steps                                             count of the steps
+ *   15       a unit is outside chamber 1                                                                 byte 12
+ *   8        an output has fewer places than the reply fills                                             count of those places
  *   9        the bound is below the fewest warm-ups                                                      count of those warm-ups
  *   10       the plan has more or fewer words than there are steps                                       count of the steps
  *   11       the number of units, the start set or the number of steps is outside the limits of a sheet  0
  *   12       the output is shorter than the sheet                                                        count of the bytes of the sheet
  *
- * The first cause in this order is the one that is given: of 4 and 5 that of the earlier link, and of 14, 6 and 7 that of the earlier step. Below,
- * each entry says which it gives.
+ * The first cause in this order is the one that is given: of 4 and 5 that of the earlier link, and of 14, 6 and 7 that of the earlier step. The
+ * places that refusal 8 counts are one for each step, or, of warm_to_edition_1 and warm_to_edition_2, one for each byte of the converted sheet.
+ * Below, each entry says which refusals it gives.
  *
  * To learn the number of steps n, call warm_steps with no list (NULL and 0): it gives refusal 8 with n as its place, or a full reply if n is 0, or
  * one of 1 to 7, 13 and 14 if the sheet is refused. To learn the length of a sheet before it is written, call warm_write with no output (NULL and 0):
- * it gives refusal 12 with the length as its place, or 11.
+ * it gives refusal 12 with the length as its place, or 11. To learn that of a converted sheet, call warm_to_edition_1 or warm_to_edition_2 with no
+ * output: it gives refusal 8 with the length as its place, or the one that refuses the sheet.
  *
  * No call allocates, blocks, prints or keeps state: threads may call at will. Buffers are aligned for their type and do not overlap. A pointer
  * may be NULL where its length is 0. The archive is for x86-64 and the calling convention of Linux (System V), built for any such processor, and
@@ -117,6 +120,8 @@ extern "C" {
 #define WARM_STACK_CHART 32768
 #define WARM_STACK_VERDICT 512
 #define WARM_STACK_WRITE 128
+#define WARM_STACK_TO_EDITION_1 512
+#define WARM_STACK_TO_EDITION_2 512
 
 /* The numbers of the table above, by name. Later versions add to them. */
 typedef enum {
@@ -133,7 +138,8 @@ typedef enum {
     WARM_REFUSAL_LIMITS = 11,
     WARM_REFUSAL_NO_ROOM = 12,
     WARM_REFUSAL_CHAMBER_SIZES = 13,
-    WARM_REFUSAL_RESERVED_BYTES = 14
+    WARM_REFUSAL_RESERVED_BYTES = 14,
+    WARM_REFUSAL_OTHER_CHAMBERS = 15
 } warm_refusal;
 
 /* What the place of a refusal is. Later versions may add to these. */
@@ -235,6 +241,26 @@ typedef struct {
 WARM_CHECKED warm_written warm_write(uint8_t units, uint16_t bound, uint64_t start, const warm_step *steps, size_t steps_len, uint8_t *sheet,
     size_t sheet_len) WARM_NOEXCEPT;
 
+/*
+ * A sheet in edition 1, into the first places of a byte output: 24 for the header and 24 for each record. Of a sheet of edition 2, the numbers of
+ * chamber 1 are kept, and all units must be there, or it is refusal 15; one of edition 1 is copied as it is. Each record keeps its number, and those
+ * that are not reached are converted like the others. Places after the sheet are left as they are, and so is the whole output on a refusal. An output
+ * of WARM_BYTES places is always enough. The converted sheet gets the same replies from warm_plan, warm_chart and warm_verdict, refusal 9 included,
+ * and from warm_steps too, but that the greatest numbers of chambers 2 to 4, which are empty, are 0.
+ * Takes two walks along the chain, and one pass over all records. Refusals: 1 to 8 and 13 to 15.
+ */
+WARM_CHECKED warm_written warm_to_edition_1(const uint8_t *sheet, size_t sheet_len, uint8_t *out, size_t out_len) WARM_NOEXCEPT;
+
+/*
+ * A sheet in edition 2, into the first places of a byte output: 24 for the header and 32 for each record. Of a sheet of edition 1, all units are then
+ * in chamber 1, and the numbers of the other chambers are 0; one of edition 2 is copied as it is. Each record keeps its number, and those that are
+ * not reached are converted like the others. Places after the sheet are left as they are, and so is the whole output on a refusal. An output of
+ * WARM_BYTES places is always enough. The converted sheet gets the same replies from warm_steps, warm_plan, warm_chart and warm_verdict, refusal 9
+ * included, and warm_to_edition_1 gives back the bytes of a sheet that was of edition 1.
+ * Takes two walks along the chain, and one pass over all records. Refusals: 1 to 8, 13 and 14.
+ */
+WARM_CHECKED warm_written warm_to_edition_2(const uint8_t *sheet, size_t sheet_len, uint8_t *out, size_t out_len) WARM_NOEXCEPT;
+
 /* The cause of a refusal in words, by its number and its place, as the table above has it. Never NULL: other numbers have words of their own. */
 static inline const char *warm_cause(uint32_t refusal, uint32_t place)
 {
@@ -276,7 +302,7 @@ static inline const char *warm_cause(uint32_t refusal, uint32_t place)
     case WARM_REFUSAL_NO_SET:
         return "no set of units is feasible in the step";
     case WARM_REFUSAL_SHORT_OUTPUT:
-        return "an output has fewer places than there are steps";
+        return "an output has fewer places than the reply fills";
     case WARM_REFUSAL_BOUND:
         return "the bound is below the fewest warm-ups";
     case WARM_REFUSAL_PLAN_LENGTH:
@@ -295,6 +321,14 @@ static inline const char *warm_cause(uint32_t refusal, uint32_t place)
         break;
     case WARM_REFUSAL_RESERVED_BYTES:
         return "bytes 26 to 27 of the step's record are not zero in edition 2";
+    case WARM_REFUSAL_OTHER_CHAMBERS:
+        switch (place) {
+        case 12:
+            return "a unit is outside chamber 1";
+        default:
+            break;
+        }
+        break;
     default:
         break;
     }
@@ -328,6 +362,8 @@ static inline warm_place warm_place_of(uint32_t refusal)
         return WARM_PLACE_BYTE;
     case WARM_REFUSAL_RESERVED_BYTES:
         return WARM_PLACE_STEP;
+    case WARM_REFUSAL_OTHER_CHAMBERS:
+        return WARM_PLACE_BYTE;
     default:
         break;
     }

@@ -1,5 +1,5 @@
 /*
- * Calls the five entries from C as include/warm.h declares them, on sheets of both editions. Each buffer ends where memory that may not be touched
+ * Calls the seven entries from C as include/warm.h declares them, on sheets of both editions. Each buffer ends where memory that may not be touched
  * begins, so that a read or a write beyond it ends the program. What each call must reply is written out by hand, but for examples/four_runs.sheet,
  * which comes on standard input. Ends with status 1 at the first difference.
  */
@@ -244,6 +244,7 @@ static void refused_sheets(void)
     };
     warm_chamber_step *list = lent(32 * 4);
     uint64_t *on = lent(8 * 4), *off = lent(8 * 4);
+    uint8_t *converted = lent(152);
     for (size_t i = 0; i < sizeof faults / sizeof *faults; i++) {
         size_t length = benches[faults[i].which].length;
         uint8_t *sheet = benches[faults[i].which].sheet(9);
@@ -253,8 +254,13 @@ static void refused_sheets(void)
         must(is(warm_plan(sheet, length, on, 4), refusal, place, 0, 0), "the plan of a sheet that is refused");
         must(is(warm_chart(sheet, length, on, 4, off, 4), refusal, place, 0, 0), "the chart of a sheet that is refused");
         must(is(warm_verdict(sheet, length, benches[0].plan, 4), refusal, place, 0, 0), "a verdict on a sheet that is refused");
+        for (size_t places = 0; places <= 152; places += 152) {
+            must(wrote(warm_to_edition_1(sheet, length, converted, places), refusal, place, 0), "a sheet that is refused, to edition 1");
+            must(wrote(warm_to_edition_2(sheet, length, converted, places), refusal, place, 0), "a sheet that is refused, to edition 2");
+        }
     }
     must(untouched(list, 32 * 4) && untouched(on, 8 * 4) && untouched(off, 8 * 4), "outputs for sheets that are refused");
+    must(untouched(converted, 152), "the output for sheets that are refused");
 }
 
 /* ---- sheets that are written */
@@ -340,6 +346,107 @@ static void write_and_read(void)
     must(is(warm_plan(out, LONGEST, NULL, 0), 6, 1, 0, 0), "the refusal of a unit that the sheet has not");
 }
 
+/* ---- sheets that are converted */
+
+/* The bytes of these digits. */
+static uint8_t *bytes_of(const char *digits)
+{
+    size_t length = strlen(digits) / 2;
+    uint8_t *bytes = lent(length);
+    for (size_t i = 0; i < length; i++) {
+        const char pair[3] = { digits[2 * i], digits[2 * i + 1], 0 };
+        bytes[i] = (uint8_t)strtoul(pair, NULL, 16);
+    }
+    return bytes;
+}
+
+/* 64 units and three records, of which the first is unused and the chain goes from the third to the second: in edition 1, the same in edition 2, and
+   in edition 2 with other bytes where edition 1 has no place for them. */
+#define SETS "1817161514131211f8f7f6f5f4f3f2f1"
+#define UNUSED "a0a1a2a3a4a5a6a7a8a9aaabacadaeaf"
+static const char in_first[] = "5741524d0140030003007271000000008887868584838281"
+                               UNUSED "b0b1b2b3b4b5b6b7" SETS "05400000c4c5c6c7" SETS "01fe0200d4d5d6d7";
+static const char in_second[] = "5741524d0240030003007271400000008887868584838281"
+                                UNUSED "b0000000b1000000b2b30000b4b5b6b7" SETS "050000004000000000000000c4c5c6c7"
+                                SETS "01000000fe00000002000000d4d5d6d7";
+static const char other_second[] = "5741524d0240030003007271400000008887868584838281"
+                                   UNUSED "b0e1e2e3b1e4e5e6b2b3e7e8b4b5b6b7" SETS "0500000040e1e2e300000000c4c5c6c7"
+                                   SETS "01000000fee4e5e602000000d4d5d6d7";
+
+/* Each of them in each edition, into an output of so many bytes, with canaries before it and after the sheet. */
+static void convert_into(size_t places)
+{
+    static const struct {
+        warm_written (*entry)(const uint8_t *sheet, size_t sheet_len, uint8_t *out, size_t out_len);
+        const char *sheet, *converted;
+    } conversions[] = {
+        { warm_to_edition_1, in_first, in_first }, { warm_to_edition_1, in_second, in_first }, { warm_to_edition_1, other_second, in_first },
+        { warm_to_edition_2, in_first, in_second }, { warm_to_edition_2, in_second, in_second }, { warm_to_edition_2, other_second, other_second },
+    };
+    for (size_t i = 0; i < sizeof conversions / sizeof *conversions; i++) {
+        size_t length = strlen(conversions[i].sheet) / 2, needed = strlen(conversions[i].converted) / 2;
+        const uint8_t *sheet = bytes_of(conversions[i].sheet), *same = bytes_of(conversions[i].sheet);
+        uint8_t *out = lent(places);
+        warm_written r = conversions[i].entry(sheet, length, out, places);
+        if (places < needed)
+            must(wrote(r, 8, (uint32_t)needed, 0) && untouched(out, places), "a converted sheet into an output that is too short");
+        else
+            must(wrote(r, 0, 0, (uint32_t)needed) && memcmp(out, bytes_of(conversions[i].converted), needed) == 0
+                    && untouched(out + needed, places - needed),
+                "a converted sheet");
+        must(places == 0 || untouched(out - 64, 64), "bytes before the converted sheet");
+        must(memcmp(sheet, same, length) == 0, "the sheet that was handed in");
+    }
+}
+
+/* A unit in another chamber than the first: 15 goes before 8, and in edition 2 the sheet is copied. */
+static void convert_chambers(void)
+{
+    static const uint8_t sizes[][4] = { { 63, 1, 0, 0 }, { 63, 0, 1, 0 }, { 63, 0, 0, 1 }, { 60, 1, 1, 2 } };
+    uint8_t *out = lent(WARM_BYTES);
+    for (size_t i = 0; i < sizeof sizes / sizeof *sizes; i++) {
+        uint8_t *sheet = bytes_of(other_second);
+        memcpy(sheet + 12, sizes[i], 4);
+        for (size_t places = 0; places <= 120; places++)
+            must(wrote(warm_to_edition_1(sheet, 120, out + WARM_BYTES - places, places), 15, 12, 0), "a unit outside chamber 1");
+        must(untouched(out, WARM_BYTES), "the output for a unit outside chamber 1");
+        must(wrote(warm_to_edition_2(sheet, 120, out, 119), 8, 120, 0) && untouched(out, WARM_BYTES), "an output that is too short for chambers");
+        must(wrote(warm_to_edition_2(sheet, 120, out, WARM_BYTES), 0, 0, 120) && memcmp(out, sheet, 120) == 0
+                && untouched(out + 120, WARM_BYTES - 120),
+            "a copy of a sheet with chambers");
+        memset(out, 0xa5, 120);
+    }
+    must(wrote(warm_to_edition_1(two_chambers(3), 152, NULL, 0), 15, 12, 0), "two chambers, to edition 1");
+    must(wrote(warm_to_edition_2(two_chambers(3), 152, out, 152), 0, 0, 152) && memcmp(out, two_chambers(3), 152) == 0, "two chambers");
+}
+
+/* As many records as a sheet can have, up and down again, into outputs that are just long enough. The plan stays, or its refusal. */
+static void convert_longest(void)
+{
+    enum { LONGEST = 24 * (WARM_STEPS + 1) };
+    for (unsigned bound = 0; bound <= WARM_STEPS; bound += WARM_STEPS) {
+        uint8_t *sheet = lent(LONGEST), *raised = lent(WARM_BYTES), *lowered = lent(LONGEST);
+        uint64_t *before = lent(8 * WARM_STEPS), *after = lent(8 * WARM_STEPS);
+        put_header(sheet, 1, 64, WARM_STEPS, bound);
+        for (unsigned j = 1; j <= WARM_STEPS; j++) {
+            put(sheet + 24 * j, 8, (uint64_t)1 << j % 64);
+            put(sheet + 24 * j + 8, 8, UINT64_MAX);
+            put(sheet + 24 * j + 16, 2, 1 | 1 << 8);
+            put(sheet + 24 * j + 18, 2, j % WARM_STEPS ? j + 1 : 0);
+            put(sheet + 24 * j + 20, 4, UINT32_MAX - j);
+        }
+        must(wrote(warm_to_edition_2(sheet, LONGEST, raised, WARM_BYTES - 1), 8, WARM_BYTES, 0), "the length of the longest sheet there is");
+        must(untouched(raised, WARM_BYTES), "the output for the longest sheet there is");
+        must(wrote(warm_to_edition_2(sheet, LONGEST, raised, WARM_BYTES), 0, 0, WARM_BYTES), "the longest sheet there is");
+        must(wrote(warm_to_edition_1(raised, WARM_BYTES, lowered, LONGEST), 0, 0, LONGEST), "the longest sheet of edition 1");
+        must(memcmp(lowered, sheet, LONGEST) == 0, "up and down");
+        uint32_t refusal = bound == 0 ? 9 : 0, place = bound == 0 ? WARM_STEPS : 0, total = bound == 0 ? 0 : WARM_STEPS;
+        must(is(warm_plan(sheet, LONGEST, before, WARM_STEPS), refusal, place, total, 0), "the plan before");
+        must(is(warm_plan(raised, WARM_BYTES, after, WARM_STEPS), refusal, place, total, 0), "the plan after");
+        must(memcmp(before, after, 8 * WARM_STEPS) == 0, "the sets of the plan");
+    }
+}
+
 /* ---- nothing lent, and bytes that are no sheet */
 
 static void nothing_lent(void)
@@ -352,6 +459,8 @@ static void nothing_lent(void)
         must(is(warm_plan(sheet, 24, NULL, 0), 0, 0, 0, 0), "the plan of a sheet without a step");
         must(is(warm_chart(sheet, 24, NULL, 0, NULL, 0), 0, 0, 0, 0), "the chart of a sheet without a step");
         must(is(warm_verdict(sheet, 24, NULL, 0), 0, 0, 0, 1), "no words for no step");
+        must(wrote(warm_to_edition_1(sheet, 24, NULL, 0), 8, 24, 0), "the length of a sheet without a record, in edition 1");
+        must(wrote(warm_to_edition_2(sheet, 24, NULL, 0), 8, 24, 0), "the length of a sheet without a record, in edition 2");
     }
     must(are_in_one(warm_steps(four_runs(3), 120, NULL, 0), 8, 4, 0, 0, 0), "the number of steps");
     must(are_in_one(warm_steps(two_chambers(3), 152, NULL, 0), 8, 4, 0, 0, 0), "the number of steps of edition 2");
@@ -359,6 +468,10 @@ static void nothing_lent(void)
     must(is(warm_plan(NULL, 0, NULL, 0), 1, 0, 0, 0), "the plan of no bytes");
     must(is(warm_chart(NULL, 0, NULL, 0, NULL, 0), 1, 0, 0, 0), "the chart of no bytes");
     must(is(warm_verdict(NULL, 0, NULL, 0), 1, 0, 0, 0), "a verdict on no bytes");
+    must(wrote(warm_to_edition_1(NULL, 0, NULL, 0), 1, 0, 0), "no bytes, to edition 1");
+    must(wrote(warm_to_edition_2(NULL, 0, NULL, 0), 1, 0, 0), "no bytes, to edition 2");
+    must(wrote(warm_to_edition_1(four_runs(3), 120, NULL, 0), 8, 120, 0), "the length in edition 1");
+    must(wrote(warm_to_edition_2(four_runs(3), 120, NULL, 0), 8, 152, 0), "the length in edition 2");
     must(wrote(warm_write(1, 0, 0, NULL, 0, NULL, 0), 12, 24, 0), "the length of a sheet without a step");
     must(wrote(warm_write(0, 0, 0, NULL, 0, NULL, 0), 11, 0, 0), "a sheet without a unit");
     must(wrote(warm_write(1, 0, 0, NULL, 0, lent(24), 24), 0, 0, 24), "a sheet without a step");
@@ -369,6 +482,7 @@ static void no_sheets(unsigned edition)
 {
     size_t whole = edition == 1 ? 6168 : 8216;
     uint64_t *out = lent(8 * WARM_STEPS);
+    uint8_t *converted = lent(WARM_BYTES);
     for (size_t length = 0; length <= WARM_BYTES + 1; length++) {
         uint8_t *bytes = lent(WARM_BYTES + 1), *sheet = bytes + WARM_BYTES + 1 - length;
         uint32_t number = length < 24 || length > WARM_BYTES ? 1 : length != whole ? 3 : 4;
@@ -378,8 +492,11 @@ static void no_sheets(unsigned edition)
             put(sheet + 12, 4, edition == 1 ? 0 : 0x10101010);
         }
         must(is(warm_plan(sheet, length, out, WARM_STEPS), number, place, 0, 0) && untouched(out, 8 * WARM_STEPS), "bytes that are no sheet");
+        must(wrote(warm_to_edition_1(sheet, length, converted, WARM_BYTES), number, place, 0), "bytes that are no sheet, to edition 1");
+        must(wrote(warm_to_edition_2(sheet, length, converted, WARM_BYTES), number, place, 0), "bytes that are no sheet, to edition 2");
         munmap((void *)((uintptr_t)bytes & ~(uintptr_t)4095), 4 * 4096);
     }
+    must(untouched(converted, WARM_BYTES), "the output for bytes that are no sheet");
 }
 
 /* ---- refusals in words */
@@ -389,10 +506,13 @@ static void words(void)
     static const char unknown[] = "a refusal that this version of warm.h does not know";
     must(strcmp(warm_cause(WARM_REFUSAL_HEADER, 12), "bytes 12 to 15 are not zero in edition 1") == 0, "a cause by its place");
     must(strcmp(warm_cause(WARM_REFUSAL_LOOP, 12), "the next record is already on the chain") == 0, "a cause at any place");
+    must(strcmp(warm_cause(WARM_REFUSAL_OTHER_CHAMBERS, 12), "a unit is outside chamber 1") == 0, "the cause of 15");
     must(warm_place_of(WARM_REFUSAL_HEADER) == WARM_PLACE_BYTE, "what a place is");
+    must(warm_place_of(WARM_REFUSAL_OTHER_CHAMBERS) == WARM_PLACE_BYTE, "what the place of 15 is");
     for (uint32_t number = 0; number <= 1000; number++) {
-        int known = number >= WARM_REFUSAL_LENGTH && number <= WARM_REFUSAL_RESERVED_BYTES;
-        int by_byte = number == WARM_REFUSAL_FORM || number == WARM_REFUSAL_HEADER || number == WARM_REFUSAL_CHAMBER_SIZES;
+        int known = number >= WARM_REFUSAL_LENGTH && number <= WARM_REFUSAL_OTHER_CHAMBERS;
+        int by_byte = number == WARM_REFUSAL_FORM || number == WARM_REFUSAL_HEADER || number == WARM_REFUSAL_CHAMBER_SIZES
+            || number == WARM_REFUSAL_OTHER_CHAMBERS;
         must((strcmp(warm_cause(number, 99), unknown) == 0) == (!known || by_byte), "which causes are known");
         must((warm_place_of(number) == WARM_PLACE_UNKNOWN) == !known, "which places are known");
     }
@@ -413,6 +533,10 @@ int main(void)
         write_into(places);
     write_within();
     write_and_read();
+    for (size_t places = 0; places <= 150; places++)
+        convert_into(places);
+    convert_chambers();
+    convert_longest();
     nothing_lent();
     no_sheets(1);
     no_sheets(2);

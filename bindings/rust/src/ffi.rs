@@ -52,6 +52,8 @@ extern "C" {
         sheet: *mut u8,
         sheet_len: usize,
     ) -> Written;
+    pub fn warm_to_edition_1(sheet: *const u8, sheet_len: usize, out: *mut u8, out_len: usize) -> Written;
+    pub fn warm_to_edition_2(sheet: *const u8, sheet_len: usize, out: *mut u8, out_len: usize) -> Written;
 }
 
 // The layouts that include/warm.h asserts for C.

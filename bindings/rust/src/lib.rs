@@ -1,7 +1,7 @@
 //! Plans which units of a bench are on in each step of a test campaign, so that as few as possible have to be warmed up.
 //!
 //! The work is done by a library that is proved to meet its definition for any input: a call gives a full reply, or one exact refusal.
-//! This crate wraps its five entries in safe functions over slices.
+//! This crate wraps its seven entries in safe functions over slices.
 //!
 //! | Function | What it gives |
 //! |---|---|
@@ -11,6 +11,8 @@
 //! | [`chart`] | two sets for each step: the units that can be on, and those that can be off |
 //! | [`verdict`] | whether a plan made elsewhere meets the sheet, and its total |
 //! | [`write()`] | the sheet, of edition 1, of a number of units, a bound, a start set and one [`Step`] for each step |
+//! | [`to_edition_1`] | a sheet of either edition, with all units in chamber 1, in edition 1 |
+//! | [`to_edition_2`] | a sheet of either edition in edition 2 |
 //!
 //! # Units, sets, plans
 //!
@@ -67,6 +69,9 @@
 //! steps are the records from the first one along the next ones; a record that is never reached may hold anything. The repository's
 //! `docs/FORMAT.md` has the details, the choice among several best plans included.
 //!
+//! [`to_edition_2`] converts a sheet of edition 1, and [`to_edition_1`] one of edition 2 whose units are all in chamber 1. Each record keeps its
+//! number, those that are never reached included, and plan, chart and verdicts stay the same.
+//!
 //! # Replies, refusals and buffers
 //!
 //! Bytes need no check beforehand. A sheet that cannot be used, one that cannot be written, or an output that is too short gets
@@ -74,11 +79,12 @@
 //!
 //! A reply fills the first n places of each output, for n steps, and lends them back; it changes no place after them. An output of
 //! [`STEPS`] places is always enough; one that is too short is refused with the number that it takes. [`plan`] and [`chart`] read n by a call
-//! of [`step_count`], which takes less time than a plan. [`write()`] fills the first 24 · (n + 1) bytes of its output, and one of [`BYTES`]
-//! is always enough. With the feature `alloc`, `steps_vec`, `plan_vec`, `chart_vec` and `write_vec` need no output, and give what they fill
-//! in a `Vec`.
+//! of [`step_count`], which takes less time than a plan. [`write()`] fills the first 24 · (n + 1) bytes of its output, [`to_edition_1`] the first
+//! 24 · (r + 1) and [`to_edition_2`] the first 32 · r + 24, for r records, and one of [`BYTES`] is always enough. With the feature `alloc`,
+//! `steps_vec`, `plan_vec`, `chart_vec`, `write_vec`, `to_edition_1_vec` and `to_edition_2_vec` need no output, and give what they fill in a
+//! `Vec`.
 //!
-//! No call but those four allocates, and none blocks, prints or keeps state, so threads may call at will. A call takes less than a
+//! No call but those six allocates, and none blocks, prints or keeps state, so threads may call at will. A call takes less than a
 //! millisecond on the largest sheets. The library needs at most 32,768 bytes of stack for a chart, and at most 13,824 for all else; what these
 //! limits leave out, the C header says under Stack.
 //!
@@ -116,7 +122,7 @@ mod owned;
 mod refusal;
 
 #[cfg(feature = "alloc")]
-pub use owned::{chart_vec, plan_vec, steps_vec, write_vec};
+pub use owned::{chart_vec, plan_vec, steps_vec, to_edition_1_vec, to_edition_2_vec, write_vec};
 pub use refusal::{Error, Place, Refusal, UnknownRefusal};
 
 /// The version of the library's C interface that this crate is written for.
@@ -394,6 +400,63 @@ pub fn write<'a>(units: u8, bound: u16, start: u64, steps: &[Step], output: &'a 
     // neither.
     let reply =
         unsafe { ffi::warm_write(units, bound, start, steps.as_ptr(), steps.len(), output.as_mut_ptr(), output.len()) };
+    full(reply.refusal, reply.place)?;
+    Ok(first(output, reply.length as usize))
+}
+
+/// A sheet in edition 1, into the first bytes of `output`. They are lent back.
+///
+/// A sheet of edition 2 must have all of its units in chamber 1, whose numbers are kept. One of edition 1 is copied as it is. Each record keeps
+/// its number, and those that are never reached are converted like the others. The bound plays no part. [`plan`], [`chart`] and [`verdict`] say
+/// the same of the converted sheet, and so does [`steps`], but that the greatest numbers of chambers 2 to 4, which are empty, are 0.
+///
+/// ```
+/// let (mut bytes, mut lowered) = ([0; warm::BYTES], [0; warm::BYTES]);
+/// let raised = warm::to_edition_2(&warm::FOUR_RUNS, &mut bytes)?;
+/// assert_eq!(warm::to_edition_1(raised, &mut lowered)?, warm::FOUR_RUNS);
+///
+/// bytes[12..14].copy_from_slice(&[2, 1]); // Unit 2 is in chamber 2,
+/// bytes[109] = 1; // where one unit may be on in step 3, which needs it.
+/// let refused = warm::to_edition_1(&bytes[..152], &mut lowered).unwrap_err();
+/// assert_eq!(refused, warm::Error::Refused { refusal: warm::Refusal::OtherChambers, place: warm::Place::Byte(12) });
+/// # Ok::<(), warm::Error>(())
+/// ```
+///
+/// # Errors
+///
+/// Refusals 1 to 8 and 13 to 15; the output is then as it was.
+pub fn to_edition_1<'a>(sheet: &[u8], output: &'a mut [u8]) -> Result<&'a [u8], Error> {
+    // SAFETY: each pointer and length is that of a live slice, the one that is written to is lent for writing and cannot overlap the other, and
+    // the library keeps neither.
+    let reply = unsafe { ffi::warm_to_edition_1(sheet.as_ptr(), sheet.len(), output.as_mut_ptr(), output.len()) };
+    full(reply.refusal, reply.place)?;
+    Ok(first(output, reply.length as usize))
+}
+
+/// A sheet in edition 2, into the first bytes of `output`. They are lent back.
+///
+/// Of a sheet of edition 1, all units are then in chamber 1, and the numbers of the other chambers are 0. One of edition 2 is copied as it is.
+/// Each record keeps its number, and those that are never reached are converted like the others. The bound plays no part. [`steps`], [`plan`],
+/// [`chart`] and [`verdict`] say the same of the converted sheet, and [`to_edition_1`] gives back the bytes of a sheet that was of edition 1.
+///
+/// ```
+/// let (mut bytes, mut sets) = ([0; warm::BYTES], [0; warm::STEPS]);
+/// let raised = warm::to_edition_2(&warm::FOUR_RUNS, &mut bytes)?;
+/// assert_eq!((raised.len(), raised[4], &raised[12..16]), (152, 2, &[3, 0, 0, 0][..]));
+/// assert_eq!(warm::plan(raised, &mut sets)?.sets, [0b001, 0b011, 0b101, 0b101]);
+///
+/// let refused = warm::to_edition_2(&warm::FOUR_RUNS, &mut []).unwrap_err();
+/// assert_eq!(refused, warm::Error::Refused { refusal: warm::Refusal::ShortOutput, place: warm::Place::Count(152) });
+/// # Ok::<(), warm::Error>(())
+/// ```
+///
+/// # Errors
+///
+/// Refusals 1 to 8, 13 and 14; the output is then as it was.
+pub fn to_edition_2<'a>(sheet: &[u8], output: &'a mut [u8]) -> Result<&'a [u8], Error> {
+    // SAFETY: each pointer and length is that of a live slice, the one that is written to is lent for writing and cannot overlap the other, and
+    // the library keeps neither.
+    let reply = unsafe { ffi::warm_to_edition_2(sheet.as_ptr(), sheet.len(), output.as_mut_ptr(), output.len()) };
     full(reply.refusal, reply.place)?;
     Ok(first(output, reply.length as usize))
 }

@@ -24,7 +24,8 @@ pub enum Refusal {
     UpperSet = 6,
     /// 7: no set of units is feasible in the step. [`Place::Step`].
     NoSet = 7,
-    /// 8: an output has fewer places than there are steps. [`Place::Count`]: the steps.
+    /// 8: an output has fewer places than the reply fills. [`Place::Count`]: those places, one for each step, or for each byte of a converted
+    /// sheet.
     ShortOutput = 8,
     /// 9: the bound is below the fewest warm-ups. [`Place::Count`]: those warm-ups.
     Bound = 9,
@@ -38,6 +39,8 @@ pub enum Refusal {
     ChamberSizes = 13,
     /// 14: bytes 26 to 27 of the step's record are not zero in edition 2. [`Place::Step`].
     ReservedBytes = 14,
+    /// 15: a unit is outside chamber 1, byte 12. [`Place::Byte`].
+    OtherChambers = 15,
 }
 
 impl Refusal {
@@ -57,6 +60,7 @@ impl Refusal {
         Refusal::NoRoom,
         Refusal::ChamberSizes,
         Refusal::ReservedBytes,
+        Refusal::OtherChambers,
     ];
 
     /// The number of the cause.
@@ -70,7 +74,7 @@ impl Refusal {
     pub const fn place(self, number: u32) -> Place {
         match self {
             Refusal::Length | Refusal::Limits => Place::Whole,
-            Refusal::Form | Refusal::Header | Refusal::ChamberSizes => Place::Byte(number),
+            Refusal::Form | Refusal::Header | Refusal::ChamberSizes | Refusal::OtherChambers => Place::Byte(number),
             Refusal::RecordNumber | Refusal::Loop => Place::Record(number),
             Refusal::UpperSet | Refusal::NoSet | Refusal::ReservedBytes => Place::Step(number),
             Refusal::ShortOutput | Refusal::Bound | Refusal::PlanLength | Refusal::NoRoom => Place::Count(number),
@@ -180,7 +184,7 @@ impl Error {
             (Refusal::Loop, _) => "the next record is already on the chain",
             (Refusal::UpperSet, _) => "the upper set has a unit that the sheet has not",
             (Refusal::NoSet, _) => "no set of units is feasible in the step",
-            (Refusal::ShortOutput, _) => "an output has fewer places than there are steps",
+            (Refusal::ShortOutput, _) => "an output has fewer places than the reply fills",
             (Refusal::Bound, _) => "the bound is below the fewest warm-ups",
             (Refusal::PlanLength, _) => "the plan has more or fewer words than there are steps",
             (Refusal::Limits, _) => {
@@ -189,7 +193,8 @@ impl Error {
             (Refusal::NoRoom, _) => "the output is shorter than the sheet",
             (Refusal::ChamberSizes, 12) => "the chamber sizes in edition 2 do not add up to the number of units",
             (Refusal::ReservedBytes, _) => "bytes 26 to 27 of the step's record are not zero in edition 2",
-            (Refusal::Form | Refusal::Header | Refusal::ChamberSizes, _) => UNKNOWN,
+            (Refusal::OtherChambers, 12) => "a unit is outside chamber 1",
+            (Refusal::Form | Refusal::Header | Refusal::ChamberSizes | Refusal::OtherChambers, _) => UNKNOWN,
         }
     }
 }

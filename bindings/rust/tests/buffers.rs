@@ -1,10 +1,11 @@
 //! Outputs of all lengths: too short, just enough, longer. Refusal 8 for each output by itself, and which refusal comes first. What lies
-//! before, behind and, on a refusal, inside an output stays as it is: the judge looks at all of it on each call.
+//! before, behind and, on a refusal, inside an output stays as it is: the judge looks at all of it on each call. Written and converted sheets have
+//! more of this in `written` and `converted`.
 
 mod common;
 mod reference;
 
-use common::judge::Judge;
+use common::judge::{converted_length, Judge};
 use common::random::Random;
 use common::sheets::{draw, four_runs, one_chamber, set_bound, some_chambers, Family, Rack, Racks};
 use reference::replies::Replies;
@@ -45,6 +46,7 @@ fn compare_all_lengths(seed: u64, racks: Racks) -> Judge {
         ("charts", 1000),
         ("accepted", 50),
         ("turned down", 20),
+        ("copies", 400),
     ]);
     judge
 }
@@ -53,12 +55,14 @@ fn compare_all_lengths(seed: u64, racks: Racks) -> Judge {
 fn all_lengths() {
     let judge = compare_all_lengths(41, one_chamber);
     judge.tally.print("all lengths");
+    judge.tally.require(&[("to edition 2", 400)]);
 }
 
 #[test]
 fn all_lengths_in_chambers() {
     let judge = compare_all_lengths(43, some_chambers);
     judge.tally.print("all lengths in chambers");
+    judge.tally.require_refusals([15], 400);
     Rack::require(&judge.tally, 5);
 }
 
@@ -73,6 +77,11 @@ fn each_length(judge: &mut Judge, sheet: &[u8], expected: &Replies) {
             judge.chart(sheet, expected, places, others);
         }
     }
+    for edition in [1, 2] {
+        for places in lengths(converted_length(sheet, &expected.sheet, edition)) {
+            judge.convert(sheet, &expected.sheet, edition, places).ok();
+        }
+    }
 }
 
 /// One output too short, the other long enough.
@@ -85,6 +94,11 @@ fn each_output_by_itself() {
     assert_eq!(warm::chart(&sheet, &mut on, &mut off[..3]), Err(short));
     assert_eq!(warm::plan(&sheet, &mut on[..3]), Err(short));
     assert_eq!((on, off), ([9; 5], [9; 5]));
+    let shorter_than = |bytes| Error::Refused { refusal: Refusal::ShortOutput, place: Place::Count(bytes) };
+    let mut output = [9; 151];
+    assert_eq!(warm::to_edition_1(&sheet, &mut output[..119]), Err(shorter_than(120)));
+    assert_eq!(warm::to_edition_2(&sheet, &mut output), Err(shorter_than(152)));
+    assert_eq!(output, [9; 151]);
 }
 
 /// No place at all.
@@ -100,11 +114,16 @@ fn empty_slices() {
     let no_room = |bytes| Error::Refused { refusal: Refusal::NoRoom, place: Place::Count(bytes) };
     assert_eq!(warm::write(3, 3, 0, &four_runs().written_steps(), &mut []), Err(no_room(120)));
     assert_eq!(warm::write(1, 0, 0, &[], &mut []), Err(no_room(24)));
+    let shorter_than = |bytes| Error::Refused { refusal: Refusal::ShortOutput, place: Place::Count(bytes) };
+    assert_eq!(warm::to_edition_1(&sheet, &mut []), Err(shorter_than(120)));
+    assert_eq!(warm::to_edition_2(&sheet, &mut []), Err(shorter_than(152)));
     let none = Error::Refused { refusal: Refusal::Length, place: Place::Whole };
     assert_eq!(warm::steps(&[], &mut []), Err(none));
     assert_eq!(warm::plan(&[], &mut []), Err(none));
     assert_eq!(warm::chart(&[], &mut [], &mut []), Err(none));
     assert_eq!(warm::verdict(&[], &[]), Err(none));
+    assert_eq!(warm::to_edition_1(&[], &mut []), Err(none));
+    assert_eq!(warm::to_edition_2(&[], &mut []), Err(none));
 }
 
 /// Several threads at once get what one gets, on sheets of both editions.
@@ -120,11 +139,14 @@ fn threads() {
         })
         .collect();
     let run = || -> Vec<_> {
-        let chart = |sheet: &Vec<u8>| {
-            let (mut on, mut off) = ([0; 20], [0; 20]);
-            (warm::chart(sheet, &mut on, &mut off).map(|chart| chart.total), on, off)
+        let replies = |sheet: &Vec<u8>| {
+            let (mut on, mut off, mut other) = ([0; 20], [0; 20], vec![0; warm::BYTES]);
+            let chart = warm::chart(sheet, &mut on, &mut off).map(|chart| chart.total);
+            let convert = if sheet[4] == 1 { warm::to_edition_2 } else { warm::to_edition_1 };
+            let length = convert(sheet, &mut other).map(<[u8]>::len);
+            (chart, on, off, length, other)
         };
-        sheets.iter().map(chart).collect()
+        sheets.iter().map(replies).collect()
     };
     let alone = run();
     std::thread::scope(|scope| {
@@ -134,4 +156,5 @@ fn threads() {
         }
     });
     assert!(alone.iter().any(|reply| reply.0.is_ok()) && alone.iter().any(|reply| reply.0.is_err()));
+    assert!(alone.iter().any(|reply| reply.3.is_ok()) && alone.iter().any(|reply| reply.3.is_err()));
 }

@@ -1,4 +1,4 @@
-//! Drawn sheets of both editions that pass the checks, at bounds below, at and above the fewest warm-ups: all four entries that read a sheet
+//! Drawn sheets of both editions that pass the checks, at bounds below, at and above the fewest warm-ups: all six entries that read a sheet
 //! against the reference.
 
 mod common;

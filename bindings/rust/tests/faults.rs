@@ -1,6 +1,6 @@
 //! Faults put into drawn sheets of both editions and all sizes, whose chains run to and fro among unused records: each kind of fault by itself at
 //! each of its places, and two faults together, of which the earlier must be given. The refusal is known from how the sheet is made. The
-//! reference must give it, and so must all four entries that read a sheet.
+//! reference must give it, and so must all six entries that read a sheet.
 
 mod common;
 mod reference;

@@ -40,7 +40,7 @@ fn lines() {
         (Refusal::Loop, 4, "refused 5 at record 4: the next record is already on the chain"),
         (Refusal::UpperSet, 1, "refused 6 at step 1: the upper set has a unit that the sheet has not"),
         (Refusal::NoSet, 256, "refused 7 at step 256: no set of units is feasible in the step"),
-        (Refusal::ShortOutput, 4, "refused 8: an output has fewer places than there are steps (4)"),
+        (Refusal::ShortOutput, 4, "refused 8: an output has fewer places than the reply fills (4)"),
         (Refusal::Bound, 3, "refused 9: the bound is below the fewest warm-ups (3)"),
         (Refusal::PlanLength, 4, "refused 10: the plan has more or fewer words than there are steps (4)"),
         (
@@ -59,6 +59,7 @@ fn lines() {
             256,
             "refused 14 at step 256: bytes 26 to 27 of the step's record are not zero in edition 2",
         ),
+        (Refusal::OtherChambers, 12, "refused 15 at byte 12: a unit is outside chamber 1"),
     ];
     for (refusal, number, line) in lines {
         let place = refusal.place(number);
@@ -82,9 +83,22 @@ fn places() {
         (Refusal::NoRoom, Place::Count(12)),
         (Refusal::ChamberSizes, Place::Byte(12)),
         (Refusal::ReservedBytes, Place::Step(12)),
+        (Refusal::OtherChambers, Place::Byte(12)),
     ] {
         assert_eq!(refusal.place(12), place);
     }
+}
+
+/// The places that an output lacks are counted in steps, or in bytes of a converted sheet.
+#[test]
+fn of_an_output_that_is_too_short() {
+    let sheet = warm::FOUR_RUNS;
+    let line = |count: u32| format!("refused 8: an output has fewer places than the reply fills ({count})");
+    assert_eq!(warm::steps(&sheet, &mut []).unwrap_err().to_string(), line(4));
+    assert_eq!(warm::plan(&sheet, &mut []).unwrap_err().to_string(), line(4));
+    assert_eq!(warm::chart(&sheet, &mut [], &mut []).unwrap_err().to_string(), line(4));
+    assert_eq!(warm::to_edition_1(&sheet, &mut []).unwrap_err().to_string(), line(120));
+    assert_eq!(warm::to_edition_2(&sheet, &mut []).unwrap_err().to_string(), line(152));
 }
 
 /// With `?` in a function that gives any error.

@@ -4,11 +4,10 @@ mod common;
 mod reference;
 
 use common::random::Random;
-use common::sheets::{draw, one_chamber, some_chambers, Family, Racks};
+use common::sheets::{draw, first_chamber, one_chamber, some_chambers, Family, Racks};
 use reference::reading::read;
-use warm::{
-    chart, chart_vec, plan, plan_vec, step_count, steps, steps_vec, write, write_vec, ChamberStep, Error, BYTES, STEPS,
-};
+use warm::{chart, chart_vec, plan, plan_vec, step_count, steps, steps_vec, to_edition_1, to_edition_1_vec};
+use warm::{to_edition_2, to_edition_2_vec, write, write_vec, ChamberStep, Error, BYTES, STEPS};
 
 fn compare(sheet: &[u8]) -> bool {
     let mut list = [ChamberStep::default(); STEPS];
@@ -21,6 +20,10 @@ fn compare(sheet: &[u8]) -> bool {
     let planned = lent.is_ok();
     let lent = chart(sheet, &mut on, &mut off).map(|chart| (chart.total, chart.on.to_vec(), chart.off.to_vec()));
     assert_eq!(chart_vec(sheet).map(|chart| (chart.total, chart.on, chart.off)), lent);
+
+    let mut output = [0; BYTES];
+    assert_eq!(to_edition_1_vec(sheet), to_edition_1(sheet, &mut output).map(<[u8]>::to_vec));
+    assert_eq!(to_edition_2_vec(sheet), to_edition_2(sheet, &mut output).map(<[u8]>::to_vec));
 
     let count = step_count(sheet).map_err(Error::numbers);
     assert_eq!(count, read(sheet).map(|sheet| sheet.steps.len()));
@@ -48,6 +51,11 @@ fn compare_drawn(seed: u64, racks: Racks) {
 #[test]
 fn drawn() {
     compare_drawn(61, one_chamber);
+}
+
+#[test]
+fn drawn_in_chamber_1() {
+    compare_drawn(64, first_chamber);
 }
 
 #[test]

@@ -1,5 +1,5 @@
 // Fields of a record copied as they are, by their width. Each function copies the bytes from a place of the one slice to a place of the other, leaves all others, and gives
-// the place after them. They are read and put as one number.
+// the place after them, which its second `ensures` says as a number. The bytes are read and put as one number.
 use sheet::numbers::u16_at;
 use sheet::numbers::u32_at;
 use sheet::numbers::u64_at;
@@ -12,6 +12,7 @@ ghost use lib.ListN.{length};
 ghost use Rattle.format.specs.Editions.{part};
 ghost use Rattle.writer.specs.Placed.{Placed};
 
+// Two bytes; then four, and eight.
 pub(crate) fn copy_u16(s: &[u8], from: usize, out: &mut [u8], at: usize) -> usize
     requires { ⌜ from + 2 ≤ length (now s) ⌝ }
     requires { ⌜ at + 2 ≤ length (now out) ⌝ }

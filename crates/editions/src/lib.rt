@@ -20,7 +20,7 @@ ghost use Rattle.format.specs.Stages.{summaryRead};
 ghost use Rattle.promises.specs.Convert.{convertAnswer, warmConvert};
 ghost use Rattle.promises.specs.Write.{wrote};
 
-// Whether the sheet cannot be converted: the first edition has one chamber, and a unit is outside the first.
+// Whether the first edition is wanted, which has one chamber, and a unit is outside that chamber.
 fn leaves_out(first: bool, h: Header) -> bool
     ensures { λ r. ⌜ r ≡ (first && ltb (h .sizes .first) (h .units)) ⌝ }
 {

@@ -2,10 +2,10 @@
 -- link leads out of the sheet or back, both get the same refusal, and else their steps differ in tags alone. The start set plays a part in one cause only: where
 -- that cause holds of both sheets or of neither, sheets that agree up to the start set are read the same but for tags and the start set (`same-but-start`).
 use mathlib.Core.Path.{_≡_, refl, sym, ap, ap₂, _∙_}
-use mathlib.Core.Bool.{Bool, true, false, cond}
+use mathlib.Core.Bool.{Bool, cond}
 use mathlib.Core.List.{List, [], _∷_, _++_, map}
 use Prim.Native.Nat.{ℕ, zero, suc, _+_, _≤_, _<_, min}
-use native.Mathlib.Nat.{add-assoc, add-zero, zero-add}
+use native.Mathlib.Nat.{zero-add}
 use native.Mathlib.Decide.{ℕ-discrete}
 use native.Mathlib.Omega.{arith}
 use lib.Dec.{eqb}
@@ -19,8 +19,8 @@ use Rattle.format.specs.declared.ChamberStep.{ChamberStep}
 use Rattle.format.specs.Agreement.{Visited, begun, onward, AgreeTo, Agree, untagged, readUntagged}
 use Rattle.format.specs.Answer.{Answer, Given, unless}
 use Rattle.format.specs.Chain.{following, chainOf, linkCauses}
-use Rattle.format.specs.Format.{firstEdition, editionAt, unitsAt, recordsAt, firstAt, boundAt, chambersAt, startAt, upperAt, leastAt, greatestAt, nextAt, reservedAt, tagAt, recordOffset, lettersOf, isFirst, unitsOf, recordsOf, boundOf, startOf, oneSize, sizes, sizesList, chambersIn, numbersAt, stepIn, nextOf, stepOf}
-use Rattle.format.specs.Numbers.{byteAt, u16At, u64At}
+use Rattle.format.specs.Format.{firstEdition, editionAt, unitsAt, recordsAt, firstAt, boundAt, chambersAt, startAt, nextAt, tagAt, recordOffset, lettersOf, isFirst, unitsOf, recordsOf, boundOf, startOf, oneSize, sizes, sizesList, chambersIn, stepIn, nextOf, stepOf}
+use Rattle.format.specs.Numbers.{byteAt, u16At}
 use Rattle.format.specs.Reading.{formCauses, headerCauses, stepCauses, stepsCauses, recordsOn, stepsOf, openCauses, readCauses, Campaign, campaignOf}
 use Rattle.format.proofs.Answers.{past-first}
 use Rattle.format.proofs.Chains.{follow-ends, follow-on}
@@ -66,7 +66,7 @@ module _ {k : ℕ} (enough : startAt ≤ k) (s t : List ℕ) (g : AgreeTo k s t)
   same-units : unitsOf s ≡ unitsOf t
   same-units = g .headers unitsAt (omega arith)
 
-  same-records : recordsOf s ≡ recordsOf t
+  pub same-records : recordsOf s ≡ recordsOf t
   same-records = same-u16 s t 0 0 k heads recordsAt (omega arith)
 
   same-sizes : sizes s ≡ sizes t

@@ -7,29 +7,28 @@ use mathlib.Core.List.{List, [], _∷_, _++_, map}
 use Prim.Native.Nat.{ℕ, zero, suc, _+_, _^_, _≤_, _<_}
 use native.Mathlib.Nat.{zero-add}
 use native.Mathlib.Omega.{arith}
-use lib.Dec.{ltb, eqb}
+use lib.Dec.{eqb}
 use lib.ListN.{length, length-map, drop}
 use lib.Seq.{getD-take, getD-drop}
-use borrow.Author.Tests.{le-ltb, eq-eqb, leb-false}
+use borrow.Author.Tests.{le-ltb, eq-eqb, ne-eqb, leb-false}
 use Rattle.units.specs.Sets.{hasUnitFrom}
-use Rattle.chambers.specs.Chambers.{Chamber, chambersOf, sum}
+use Rattle.chambers.specs.Chambers.{chambersOf, sum}
 use Rattle.chambers.specs.Parts.{oneChamber}
 use Rattle.chambers.proofs.One.{widened-fits}
 use Rattle.format.specs.declared.ChamberSizes.{ChamberSizes}
 use Rattle.format.specs.declared.ChamberStep.{ChamberStep}
-use Rattle.format.specs.declared.Header.{Header}
 use Rattle.format.specs.declared.Summary.{Summary}
 use Rattle.format.specs.Answer.{Answer, Given, unless}
 use Rattle.format.specs.Chain.{Within, Inside, following, chainOf, linkCauses, stepsFrom}
-use Rattle.format.specs.Editions.{part, recordIn, recordPart, remade, narrowed}
-use Rattle.format.specs.Format.{letters, firstEdition, secondEdition, headerSize, recordSize, unitLimit, recordLimit, longest, nextAt, recordOffset, sheetLength, lettersOf, isFirst, unitsOf, recordsOf, reservedOf, startOf, oneSize, sizes, sizesList, chambersIn, stepIn, stepOf, nextOf, limitsOf}
+use Rattle.format.specs.Editions.{part, recordPart, remade, narrowed}
+use Rattle.format.specs.Format.{letters, firstEdition, secondEdition, headerSize, recordSize, unitLimit, recordLimit, longest, nextAt, recordOffset, sheetLength, isFirst, unitsOf, recordsOf, reservedOf, oneSize, sizes, sizesList, chambersIn, stepIn, stepOf, nextOf, limitsOf}
 use Rattle.format.specs.Numbers.{byteAt, u16At}
 use Rattle.format.specs.Reading.{same, isEdition, formCauses, headerCauses, openCauses, stepsCauses, recordsOn, stepsOf, readCauses}
 use Rattle.format.specs.Stages.{summaryOf, summaryRead}
 use Rattle.format.specs.Writing.{widened}
-use Rattle.format.proofs.Answers.{none-left, all-passed, unless-given, passed-by, passed-first}
+use Rattle.format.proofs.Answers.{none-left, all-passed, unless-given, passed-by}
 use Rattle.format.proofs.Numbers.{same-u16}
-use Rattle.format.proofs.Readings.{Sound, Opened, opened, read-opens, open-staged, read-staged, following-steps, Faultless, faultless-passes, read-faultless}
+use Rattle.format.proofs.Readings.{Opened, opened, read-opens, open-staged, read-staged, following-steps, Faultless, faultless-passes, read-faultless}
 use Rattle.format.proofs.Records.{header-within, length-most, next-first, next-after, same-step}
 use Rattle.format.proofs.Remade.{record-there, record-step, record-next, has-header, remade-letters, edition-byte, remade-edition, remade-units, remade-records, remade-first, remade-start, remade-sizes, remade-reserved, remade-long, remade-part}
 
@@ -169,29 +168,21 @@ module _ (first : Bool) (s : List ℕ) (edition : isFirst s ≡ not first) {x : 
     -- no cause of the header holds
     header-passes : {A : Type 0} (a : Answer A) → unless (formCauses u ++ headerCauses u) a ≡ a
     header-passes a =
-        let staged = sym (open-staged s (Given (summaryOf s))) ∙ read-opens s e in
-        let form-1 = passed-first _ _ _ staged in
-        let form-2 = passed-first _ _ _ (form-1 .1) in
-        let form-3 = passed-first _ _ _ (form-2 .1) in
-        let form-4 = passed-first _ _ _ (form-3 .1) in
-        let no-unit = passed-first _ _ _ (form-4 .1) in
-        let units = passed-first _ _ _ (no-unit .1) in
-        let records = passed-first _ _ _ (units .1) in
-        let zeros = passed-first _ _ _ (records .1) in
-        let chambers = passed-first _ _ _ (zeros .1) in
-        let start = passed-first _ _ _ (chambers .1) in
+        let sound = open-s .sound in
         let long = remade-long first s was-whole in
+        let units = remade-units first s l in
+        let records = remade-records first s l in
         sym (passed-by _ _ a (le-ltb (length u) headerSize (omega (arith, long, header-within first (recordsOf s))))
-        (passed-by _ _ a (le-ltb longest (length u) (omega (arith, long, length-most first (recordsOf s) (open-s .sound .few-records))))
-        (passed-by _ _ a (ap (λ w. not (same w letters)) (remade-letters first s l) ∙ form-3 .0)
+        (passed-by _ _ a (le-ltb longest (length u) (omega (arith, long, length-most first (recordsOf s) (sound .few-records))))
+        (passed-by _ _ a (ap (λ w. not (same w letters)) (remade-letters first s l) ∙ ap not (sound .has-letters))
         (passed-by _ _ a (ap (λ (k : ℕ). not (isEdition k)) (edition-byte first s l) ∙ is-edition first)
-        (passed-by _ _ a (ap (λ (d : ℕ). eqb d 0) (remade-units first s l) ∙ no-unit .0)
-        (passed-by _ _ a (ap (λ (d : ℕ). ltb unitLimit d) (remade-units first s l) ∙ units .0)
-        (passed-by _ _ a (ap (λ (r : ℕ). ltb recordLimit r) (remade-records first s l) ∙ records .0)
+        (passed-by _ _ a (ne-eqb (unitsOf u) 0 (λ none. omega (arith, units, sound .some-units)))
+        (passed-by _ _ a (le-ltb unitLimit (unitsOf u) (omega (arith, units, sound .few-units)))
+        (passed-by _ _ a (le-ltb recordLimit (recordsOf u) (omega (arith, records, sound .few-records)))
         (passed-by _ _ a (zero-bytes first s l)
-        (passed-by _ _ a (ap₂ (λ z (d : ℕ). not (eqb (sum (sizesList z)) d)) same-sizes (remade-units first s l) ∙ chambers .0)
-        (passed-by _ _ a (ap₂ hasUnitFrom (remade-start first s l) (remade-units first s l) ∙ start .0)
-        (passed-by _ _ a (ap not (eq-eqb (length u) (sheetLength (isFirst u) (recordsOf u)) (long ∙ sym (ap₂ sheetLength (remade-edition first s l) (remade-records first s l)))))
+        (passed-by _ _ a (ap not (eq-eqb (sum (sizesList (sizes u))) (unitsOf u) (ap (λ z. sum (sizesList z)) same-sizes ∙ sound .all-dealt ∙ sym units)))
+        (passed-by _ _ a (ap₂ hasUnitFrom (remade-start first s l) units ∙ sound .own-start)
+        (passed-by _ _ a (ap not (eq-eqb (length u) (sheetLength (isFirst u) (recordsOf u)) (long ∙ sym (ap₂ sheetLength (remade-edition first s l) records))))
         (none-left a))))))))))))
 
     -- nor one of the links or of a step

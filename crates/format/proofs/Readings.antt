@@ -16,8 +16,8 @@ use Rattle.format.specs.declared.ChamberStep.{ChamberStep}
 use Rattle.format.specs.declared.Summary.{Summary}
 use Rattle.format.specs.Answer.{Answer, Refused, Given, unless}
 use Rattle.format.specs.Chain.{following, chainOf, linkCauses, Within, Inside, stepsFrom}
-use Rattle.format.specs.Format.{unitLimit, recordLimit, sheetLength, isFirst, unitsOf, recordsOf, reservedOf, sizes, sizesList, chambersIn, header, nextOf, stepOf, limitsOf}
-use Rattle.format.specs.Reading.{formCauses, headerCauses, stepsCauses, recordsOn, stepsOf, openCauses, readCauses, ReaderNumber}
+use Rattle.format.specs.Format.{letters, unitLimit, recordLimit, sheetLength, lettersOf, isFirst, unitsOf, recordsOf, reservedOf, sizes, sizesList, chambersIn, header, nextOf, stepOf, limitsOf}
+use Rattle.format.specs.Reading.{same, formCauses, headerCauses, stepsCauses, recordsOn, stepsOf, openCauses, readCauses, ReaderNumber}
 use Rattle.format.specs.Stages.{headerRead, chainRead, summaryOf, openRead, summaryRead}
 use Rattle.format.proofs.Answers.{passed-by, none-left, unless-append, given-same, passed-first, all-passed, unless-given, refused-whatever, Numbered, numbered-append}
 use Rattle.format.proofs.Chains.{Met, met-none, met-more, met-room}
@@ -27,6 +27,7 @@ use Rattle.format.proofs.Records.{length-mono}
 
 pub record Sound (s : List ℕ) (h : Header) : Type 0 where
   pub is-header : header s ≡ h
+  pub has-letters : same (lettersOf s) letters ≡ true
   pub some-units : 0 < h .units
   pub few-units : h .units ≤ unitLimit
   pub few-records : h .records ≤ recordLimit
@@ -55,6 +56,7 @@ header-sound s {h} e =
     subst (Sound s) (given-same (none-left _ ∙ end .1))
     (record {
       is-header = refl;
+      has-letters = not-false _ (form-3 .0);
       some-units = positive (unitsOf s) (eqb-false (unitsOf s) 0 (no-unit .0));
       few-units = ltb-false unitLimit (unitsOf s) (units .0);
       few-records = ltb-false recordLimit (recordsOf s) (records .0);

@@ -4,13 +4,13 @@
 -- What a header or one record says is computed: a list of so many bytes is written out byte by byte (`written-out`), and both sides are then the same.
 use mathlib.Core.Path.{_≡_, refl, sym, ap, ap₂, _∙_, subst}
 use mathlib.Core.Bool.{Bool, true, false, cond, not}
-use mathlib.Core.List.{List, [], _∷_, _++_, append-nil}
+use mathlib.Core.List.{List, [], _∷_, _++_}
 use Prim.Native.Nat.{ℕ, zero, suc, _+_, _-_, _*_, _≤_, _<_}
-use native.Mathlib.Nat.{add-assoc, add-zero, zero-add, mul-zero}
+use native.Mathlib.Nat.{add-zero, mul-zero}
 use native.Mathlib.Omega.{arith}
 use lib.Dec.{eqb}
 use lib.ListN.{length, getD, take, drop, length-append, length-drop, take-append-drop}
-use lib.Seq.{length-take-le, take-at, drop-at, take-all, drop-drop, take-add, getD-take, getD-drop, drop-append-add}
+use lib.Seq.{length-take-le, take-at, take-all, drop-drop, take-add, drop-append-add}
 use borrow.Author.Tests.{eqb-true}
 use Rattle.format.specs.Editions.{part, zeros, headerIn, recordIn, recordPart, recordsIn, remade, inEdition, narrowed}
 use Rattle.format.specs.Format.{firstEdition, secondEdition, headerSize, recordSize, nextAt, sheetLength, recordOffset, lettersOf, editionOf, isFirst, unitsOf, recordsOf, firstOf, boundOf, reservedOf, startOf, oneSize, fourSizes, sizes, stepIn}

@@ -10,27 +10,29 @@ use lib.Dec.{ltb}
 use lib.ListN.{length, length-map, getD}
 use borrow.Author.Tests.{lt-ltb, le-ltb, ltb-false}
 use Rattle.chambers.specs.Parts.{withoutChambers}
-use Rattle.plans.specs.declared.Limits.{Limits}
 use Rattle.plans.specs.Plans.{allows, fewest, canBeOn, canBeOff}
 use Rattle.plans.specs.Support.{findSupport}
 use Rattle.plans.specs.Switch.{FeasiblePlan, sizesOf, total}
 use Rattle.format.specs.declared.ChamberSizes.{ChamberSizes}
 use Rattle.format.specs.declared.ChamberStep.{ChamberStep}
 use Rattle.format.specs.declared.Summary.{Summary}
-use Rattle.format.specs.Answer.{Answer, Refused, Given, cause, unless}
+use Rattle.format.specs.Agreement.{withoutTags, readUntagged}
+use Rattle.format.specs.Answer.{Answer, Refused, Given, cause, unless, First}
 use Rattle.format.specs.Editions.{remade, inEdition, narrowed}
-use Rattle.format.specs.Format.{headerSize, longest, chambersAt, sheetLength, isFirst, unitsOf, recordsOf, boundOf, startOf, oneSize, sizes, sizesList, chambersIn, recordOffset, stepIn, stepOf, limitsOf}
+use Rattle.format.specs.Format.{headerSize, longest, chambersAt, sheetLength, isFirst, unitsOf, recordsOf, oneSize, sizes, sizesList, chambersIn, recordOffset, stepIn, stepOf, limitsOf}
 use Rattle.format.specs.Reading.{recordsOn, stepsOf, readCauses, ReaderNumber, campaignOf}
 use Rattle.format.specs.Stages.{summaryOf, summaryRead}
 use Rattle.format.specs.Writing.{widened}
-use Rattle.format.proofs.Answers.{refused-by, passed-by, none-left, unless-append, refused-whatever, given-passes, none-holds, passed-first, unless-given, numbered-append, Numbered}
+use Rattle.format.proofs.Answers.{refused-by, passed-by, none-left, unless-append, first-refuses, refused-whatever, given-same, given-passes, unless-same, first-decided, none-holds, passed-first, unless-given, numbered-append, Numbered}
 use Rattle.format.proofs.Converted.{was-whole, remade-next, remade-step, remade-chain, remade-steps, same-sizes, remade-passes}
 use Rattle.format.proofs.Readings.{numbered-read}
 use Rattle.format.proofs.Records.{length-most}
 use Rattle.format.proofs.Remade.{has-header, copied, made-over, remade-edition, remade-units, remade-records, remade-bound, remade-start, remade-sizes, remade-long, up-and-down}
 use Rattle.promises.specs.Common.{limitsOn, FeasibleOn}
-use Rattle.promises.specs.Convert.{outsideCauses, roomCauses, convertRefusals, convertAnswer}
-use Rattle.promises.specs.Statements.{Passes, Meets, OneChamber, oneLimits, Converted}
+use Rattle.promises.specs.declared.Written.{Written}
+use Rattle.promises.specs.Convert.{outsideCauses, roomCauses, convertRefusals, convertAnswer, warmConvert}
+use Rattle.promises.specs.Statements.{Passes, OneChamber, oneLimits, Converted}
+use Rattle.promises.specs.Write.{fullWritten, wrote}
 use Rattle.promises.specs.Steps.{stepsAnswer, stepsReply, stepsWritten, warmSteps}
 use Rattle.promises.proofs.Likeness.{Alike, alike-plan, alike-chart, alike-verdict, alike-listing, alike-sizes}
 use Rattle.promises.proofs.Listings.{lines-by-sizes}
@@ -211,8 +213,8 @@ module _ (first : Bool) (s : List ℕ) (ok : Passes s) (edition : isFirst s ≡ 
         plan = alike-plan t s _ _ both (λ q. made-alike);
         chart = alike-chart t s _ _ both (λ q. made-alike);
         verdict = alike-verdict t s _ _ both (λ q. made-alike);
-        list = alike-listing t s _ _ both (λ q. made-alike);
-        listSizes = alike-sizes t s _ _ both (λ q. made-alike);
+        planText = alike-listing t s _ _ both (λ q. made-alike);
+        sizesText = alike-sizes t s _ _ both (λ q. made-alike);
       }
 
 -- ---- any sheet that is converted
@@ -244,8 +246,8 @@ converted-from first s ok low = go (same-or-other (isFirst s) first)
           plan = λ out. refl;
           chart = λ on off. refl;
           verdict = λ plan. refl;
-          list = refl;
-          listSizes = refl;
+          planText = refl;
+          sizesText = refl;
         })
     go (inr other) = subst (Converted first s) (sym (made-over first s other)) (made-converted first s ok other (one first low other))
 
@@ -301,3 +303,47 @@ module _ (s : List ℕ) (ok : Passes s) (first : isFirst s ≡ true) where
       let all : sizes t .first ≡ unitsOf t = ap (λ l. getD l 0 0) (c .chambers) ∙ ap (λ (z : ChamberSizes). z .first) (first-is-single s first) ∙ sym (c .units) in
       sym (convert-given true t places r (le-ltb (sizes t .first) (unitsOf t) (omega (arith, all))) (omega (arith, converted-length true t r, ap length same-again)))
       ∙ ap Given same-again
+
+-- ---- sheets that agree
+
+-- Sheets of which the reader says the same but for tags, and which have as many records, get the same reply: the same refusal, or the same length.
+module _ (first : Bool) (s t : List ℕ) (same : readUntagged s ≡ readUntagged t) (many : recordsOf s ≡ recordsOf t) where
+  -- 15 and 8, where the reader passes both
+  same-causes : Passes s → Passes t → withoutTags (campaignOf s) ≡ withoutTags (campaignOf t) → (places : ℕ)
+      → unless (outsideCauses first s ++ roomCauses first s places) (Given (length (inEdition first s)))
+      ≡ unless (outsideCauses first t ++ roomCauses first t places) (Given (length (inEdition first t)))
+  unfolding campaignOf
+  same-causes ok-s ok-t a places =
+      let long = converted-length first s (passed s ok-s) ∙ ap (sheetLength first) many ∙ sym (converted-length first t (passed t ok-t)) in
+      λ i. unless (outside first i ++ (cause (ltb places (long i)) 8 (long i) ∷ [])) (Given (long i))
+    where
+      outside : (b : Bool) → outsideCauses b s ≡ outsideCauses b t
+      outside true = λ i. cause (ltb (getD (a i .chambers) 0 0) (a i .units)) 15 chambersAt ∷ []
+      outside false = refl
+
+  pub same-reply : (out : List ℕ) → warmConvert first s out .0 ≡ warmConvert first t out .0
+  unfolding warmConvert convertRefusals wrote
+  same-reply out = go (first-decided (readCauses s))
+    where
+      reply : Answer (List ℕ) → Written
+      reply a = wrote out a .0
+
+      places : ℕ
+      places = length out
+
+      go : ((n : ℕ) × ((p : ℕ) × First (readCauses s) n p)) ⊎ Passes s → reply (convertAnswer first s places) ≡ reply (convertAnswer first t places)
+      go (inl (n, (p, f))) =
+          ap reply
+          (convert-staged first s places ∙ sym (first-refuses f _)
+          ∙ refused-whatever (readCauses t) (withoutTags (campaignOf t)) (first-refuses f (Given (withoutTags (campaignOf s))) ∙ same) _ ∙ sym (convert-staged first t places))
+      go (inr ok-s) =
+          let given = sym same ∙ none-holds (readCauses s) (Given (withoutTags (campaignOf s))) ok-s in
+          let ok-t = given-passes (readCauses t) _ given in
+          let says = given-same (sym (unless-given (readCauses t) _ given)) in
+          ap reply (read s ok-s)
+          ∙ unless-same reply reply (outsideCauses first s ++ roomCauses first s places) (outsideCauses first t ++ roomCauses first t places) (Given (inEdition first s)) (Given (inEdition first t)) _ _
+          (same-causes ok-s ok-t says places) (λ n p. refl) (λ long. ap fullWritten long)
+          ∙ sym (ap reply (read t ok-t))
+        where
+          read : (u : List ℕ) → Passes u → convertAnswer first u places ≡ unless (outsideCauses first u ++ roomCauses first u places) (Given (inEdition first u))
+          read u ok = convert-staged first u places ∙ none-holds (readCauses u) _ ok ∙ sym (unless-append (outsideCauses first u) (roomCauses first u places) (Given (inEdition first u)))

@@ -30,7 +30,7 @@ use Rattle.format.specs.Editions.{inEdition}
 use Rattle.format.specs.Format.{startAt, sheetLength, limitsOf, isFirst, unitsOf, recordsOf, boundOf, startOf, oneSize, sizes, sizesList, chambersIn}
 use Rattle.format.specs.Reading.{stepsCauses, recordsOn, stepsOf, readCauses, ReaderNumber, campaignOf, campaignRead}
 use Rattle.format.specs.Writing.{sheetOf, numbersFrom, widened, AllWide}
-use Rattle.format.proofs.Agreements.{agree-itself, same-read}
+use Rattle.format.proofs.Agreements.{agree-itself, same-records, same-read}
 use Rattle.format.proofs.Answers.{none-holds, numbered-append, Numbered}
 use Rattle.format.proofs.Chains.{chain-is-long-enough}
 use Rattle.format.proofs.Readings.{numbered-read}
@@ -48,7 +48,7 @@ use Rattle.promises.specs.Steps.{stepsRefusals, stepsReply, stepsWritten
 use Rattle.promises.specs.Verdict.{wordsCauses, verdictRefusals, accepts, judged, warmVerdict}
 use Rattle.promises.specs.Write.{writeRefusals, refusedWritten, fullWritten, wrote, warmWrite}
 use Rattle.promises.proofs.Charts.{words-length, words-cells, no-others}
-use Rattle.promises.proofs.Converts.{converted-length, convert-gives, convert-numbers, converted-from, raised-steps, lowered-again}
+use Rattle.promises.proofs.Converts.{converted-length, convert-gives, convert-numbers, converted-from, raised-steps, lowered-again, same-reply}
 use Rattle.promises.proofs.Exactly.{exact, no-first}
 use Rattle.promises.proofs.Likeness.{untagged-alike, alike-reply, alike-list, alike-plan, alike-chart, alike-verdict, alike-listing, alike-sizes}
 use Rattle.promises.proofs.Plans.{fewest-by, plan-fewest, plan-length-on, over-bound, in-bound, plan-open, plan-given}
@@ -394,6 +394,10 @@ agreeing-chart s t on off g = alike-chart s t _ _ (agreeing-sheets s t g) (untag
 
 pub agreeing-verdict : (s t plan : List ℕ) → Agree s t → warmVerdict s plan ≡ warmVerdict t plan
 agreeing-verdict s t plan g = alike-verdict s t _ _ (agreeing-sheets s t g) (untagged-alike s t) plan
+
+-- what they are converted to has their own tags and unused records, but the reply is the same
+pub agreeing-convert : (first : Bool) (s t out : List ℕ) → Agree s t → warmConvert first s out .0 ≡ warmConvert first t out .0
+agreeing-convert first s t out g = same-reply first s t (agreeing-sheets s t g) (same-records (omega arith) s t g) out
 
 pub agreeing-listing : (s t out : List ℕ) → Agree s t → listPlan s out ≡ listPlan t out
 agreeing-listing s t out g = ap (λ text. printed text out) (alike-listing s t _ _ (agreeing-sheets s t g) (untagged-alike s t))

@@ -1,9 +1,8 @@
 -- A sheet with all of its units in the first chamber is the case of one chamber (`single`), whatever its edition: the other chambers have no unit, and what its steps say of
 -- them plays no part. A sheet of edition 1 is such a sheet (`first-is-single`).
-use mathlib.Core.Path.{_≡_, refl, sym, ap, ap₂, _∙_, subst}
-use mathlib.Core.Logic.{_↔_}
+use mathlib.Core.Path.{_≡_, sym, ap, ap₂, _∙_, subst}
 use mathlib.Core.Bool.{Bool, true, false, cond}
-use mathlib.Core.List.{List, [], _∷_, map}
+use mathlib.Core.List.{List, map}
 use Prim.Native.Nat.{ℕ, _^_, _≤_, _<_}
 use native.Mathlib.Omega.{arith}
 use borrow.Author.Tests.{leb-false}
@@ -19,7 +18,7 @@ use Rattle.format.specs.Format.{isFirst, unitsOf, boundOf, startOf, oneSize, fo
 use Rattle.promises.specs.Chart.{onWords, offWords}
 use Rattle.promises.specs.Common.{limitsOn}
 use Rattle.promises.specs.Plan.{fewestOn, supportOn}
-use Rattle.promises.specs.Statements.{Passes, oneLimits, OneChamber}
+use Rattle.promises.specs.Statements.{Passes, OneChamber}
 use Rattle.promises.proofs.Read.{passed, was-opened, start-is, units-are, all-dealt, bench}
 
 -- where the first chamber has no fewer units than the sheet, it has all

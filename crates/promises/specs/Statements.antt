@@ -128,5 +128,5 @@ pub record Converted (first : Bool) (s t : List ℕ) : Type 0 where
   pub plan : (out : List ℕ) → warmPlan t out ≡ warmPlan s out
   pub chart : (on off : List ℕ) → warmChart t on off ≡ warmChart s on off
   pub verdict : (plan : List ℕ) → warmVerdict t plan ≡ warmVerdict s plan
-  pub list : listing t ≡ listing s
-  pub listSizes : sizesListing t ≡ sizesListing s
+  pub planText : listing t ≡ listing s
+  pub sizesText : sizesListing t ≡ sizesListing s

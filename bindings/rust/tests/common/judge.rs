@@ -3,8 +3,10 @@
 use super::random::Random;
 use super::sheets::Campaign;
 use super::tally::Tally;
+use crate::reference::converting::convert;
+use crate::reference::reading::length;
 use crate::reference::replies::{write, Replies};
-use crate::reference::{units_below, Reply};
+use crate::reference::{units_below, Reply, Sheet};
 use std::fmt::Debug;
 use warm::{ChamberStep, Error, Step};
 
@@ -69,7 +71,7 @@ impl Judge {
         Judge { tally: Tally::default(), random: Random::new(seed) }
     }
 
-    /// All four entries that read a sheet, with outputs that are long enough, and the verdict on the plan.
+    /// All six entries that read a sheet, with outputs that are long enough, and the verdict on the plan.
     pub fn all(&mut self, sheet: &[u8], expected: &Replies) {
         self.all_but_chart(sheet, expected);
         self.long_enough_chart(sheet, expected);
@@ -82,6 +84,10 @@ impl Judge {
         self.plan(sheet, expected, places);
         let plan = if expected.sheet.is_ok() { expected.support().to_vec() } else { vec![1, 3, 5, 5] };
         self.verdict(sheet, expected, &plan);
+        for edition in [1, 2] {
+            let places = converted_length(sheet, &expected.sheet, edition) + self.random.below(4);
+            self.convert(sheet, &expected.sheet, edition, places).ok();
+        }
     }
 
     fn enough(&mut self, expected: &Replies) -> usize {
@@ -177,6 +183,22 @@ impl Judge {
         want
     }
 
+    /// The sheet in that edition, into an output of so many bytes; `read` is what the reference's reader makes of it. Gives the sheet that the
+    /// reference makes, or the refusal.
+    pub fn convert(&mut self, sheet: &[u8], read: &Reply<Sheet>, edition: u8, places: usize) -> Reply<Vec<u8>> {
+        let call = ["to edition 1", "to edition 2"][usize::from(edition) - 1];
+        let to = if edition == 1 { warm::to_edition_1 } else { warm::to_edition_2 };
+        let mut output = bytes(self.random.below(16), places);
+        let got = self.with_lent_sheet(sheet, |sheet| to(sheet, output.lent()).map(<[u8]>::to_vec));
+        let want = convert(sheet, read, edition, places);
+        self.compare(call, sheet, got, &want);
+        output.check(want.as_deref().unwrap_or(&[]), call, sheet);
+        if want.is_ok() {
+            self.tally.add(if sheet[4] == edition { "copies" } else { call }, 1);
+        }
+        want
+    }
+
     /// Runs a call on a sheet inside a larger buffer of garbage, at any alignment. Nothing there may change.
     fn with_lent_sheet<R>(&mut self, sheet: &[u8], call: impl FnOnce(&[u8]) -> R) -> R {
         let at = self.random.below(16);
@@ -210,6 +232,11 @@ impl Judge {
         self.tally.add(kinds[0], u64::from(can));
         self.tally.add(kinds[1], (units * words.len()) as u64 - u64::from(can));
     }
+}
+
+/// The bytes that a sheet that passes the checks takes in that edition; 0 if it does not pass.
+pub fn converted_length(sheet: &[u8], read: &Reply<Sheet>, edition: u8) -> usize {
+    read.as_ref().map_or(0, |_| length(edition, usize::from(u16::from_le_bytes([sheet[6], sheet[7]]))))
 }
 
 /// The bytes of a sheet, for the message of a failure.

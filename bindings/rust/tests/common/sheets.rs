@@ -78,6 +78,11 @@ pub fn one_chamber(units: usize, _: &mut Random) -> Rack {
     units.into()
 }
 
+/// Racks of edition 2 with all units in chamber 1.
+pub fn first_chamber(units: usize, _: &mut Random) -> Rack {
+    [units, 0, 0, 0].into()
+}
+
 /// Racks of edition 2: the units are dealt out to one to four chambers, any of the four, and the others are empty.
 pub fn some_chambers(units: usize, random: &mut Random) -> Rack {
     let mut open = [0, 1, 2, 3];

@@ -6,7 +6,7 @@ use std::io::Write;
 #[derive(Default)]
 pub struct Tally(BTreeMap<&'static str, u64>);
 
-const REFUSALS: [&str; 14] = [
+const REFUSALS: [&str; 15] = [
     "refusal 1",
     "refusal 2",
     "refusal 3",
@@ -21,6 +21,7 @@ const REFUSALS: [&str; 14] = [
     "refusal 12",
     "refusal 13",
     "refusal 14",
+    "refusal 15",
 ];
 
 impl Tally {

@@ -2,6 +2,7 @@
 //! own `common::sheets`.
 //!
 //! - `reading`: the bytes of a sheet of either edition, refusals 1 to 7, 13 and 14.
+//! - `converting`: the same sheet in the other edition, refusals 15 and 8.
 //! - `support`: the plan that is handed out, FindSupport in each chamber.
 //! - `exact`: the fewest warm-ups of any feasible plan, in all and with one unit on or off in one step. For up to 16 units from all sets
 //!   (`all_sets`), for any number from a flow (`flow`): neither knows FindSupport, nor plans a chamber by itself. Or by planning anew with that
@@ -12,6 +13,7 @@
 #![allow(dead_code)]
 
 pub mod all_sets;
+pub mod converting;
 pub mod exact;
 pub mod flow;
 pub mod forced;

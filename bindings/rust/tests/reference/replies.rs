@@ -1,5 +1,6 @@
-//! What the entries answer (docs/FORMAT.md, Refusals, Writing and Replies).
+//! What the entries answer (docs/FORMAT.md, Refusals, Writing and Replies); a converted sheet is made by `converting`.
 
+use super::converting::enough;
 use super::exact::Exact;
 use super::reading::{read, Sheet};
 use super::support::find_support;
@@ -87,9 +88,7 @@ impl Replies {
     /// Refusals 1 to 8.
     fn with_places(&self, places: usize) -> Reply<&Sheet> {
         let sheet = self.sheet.as_ref().map_err(|&refusal| refusal)?;
-        if places < self.n() {
-            return Err((8, self.n() as u32));
-        }
+        enough(places, self.n())?;
         Ok(sheet)
     }
 

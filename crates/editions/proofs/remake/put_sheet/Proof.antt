@@ -8,7 +8,7 @@ use denote.Ref.{now}
 use lib.Seq.{sets}
 use Rattle.format.specs.Editions.{headerIn, recordsIn, remade}
 use Rattle.format.specs.Format.{sheetLength}
-use Rattle.format.proofs.Remade.{header-long, has-header, copied, made-over}
+use Rattle.format.proofs.Remade.{header-long, copied, made-over}
 use Rattle.writer.proofs.Places.{placed-length, placed-then}
 use Rattle.editions.proofs.Remaking.{same-edition, other-edition}
 use borrow.Author.Needs.{needs}
