@@ -56,8 +56,8 @@ record-step false = written-out 24 (λ b. stepIn false (recordIn false b) 0 ≡ 
 
 pub record-next : (first : Bool) (b : List ℕ) → length b ≡ recordSize (not first) → u16At (recordIn first b) (nextAt first) ≡ u16At b (nextAt (not first))
 unfolding recordIn byteAt u16At
-record-next true = written-out 32 (λ b. u16At (recordIn true b) 18 ≡ u16At b 24) (λ f. refl)
-record-next false = written-out 24 (λ b. u16At (recordIn false b) 24 ≡ u16At b 18) (λ f. refl)
+record-next true = written-out 32 (λ b. u16At (recordIn true b) (nextAt true) ≡ u16At b (nextAt false)) (λ f. refl)
+record-next false = written-out 24 (λ b. u16At (recordIn false b) (nextAt false) ≡ u16At b (nextAt true)) (λ f. refl)
 
 -- up and down again
 record-back : (b : List ℕ) → length b ≡ recordSize true → recordIn true (recordIn false b) ≡ b

@@ -43,9 +43,13 @@ use Rattle.promises.proofs.Verdicts.{same-accepts}
 
 -- ---- refusal 15
 
+-- going up is not going down
+not-down : {A : Type 0} → false ≡ true → A
+not-down e = absurd (let z : _≡_ {A = ℕ} 0 1 = cc in omega arith)
+
 outside-refuses : {A : Type 0} (first : Bool) (s : List ℕ) (a : Answer A) → (first && ltb (sizes s .first) (unitsOf s)) ≡ true → Refused 15 chambersAt ≡ unless (outsideCauses first s) a
 outside-refuses true s a h = refused-by _ _ _ h
-outside-refuses false s a h = absurd (let z : _≡_ {A = ℕ} 0 1 = cc in omega arith)
+outside-refuses false s a h = not-down h
 
 outside-passes : {A : Type 0} (first : Bool) (s : List ℕ) (a : Answer A) → (first && ltb (sizes s .first) (unitsOf s)) ≡ false → a ≡ unless (outsideCauses first s) a
 outside-passes true s a h = passed-by _ _ _ h (none-left a)
@@ -53,7 +57,7 @@ outside-passes false s a h = none-left a
 
 -- ---- the length of a converted sheet
 
--- the editions of two sheets are the same, or each has the other
+-- two editions are the same, or each is the other one
 same-or-other : (a b : Bool) → (a ≡ b) ⊎ (a ≡ not b)
 same-or-other true true = inl refl
 same-or-other true false = inr refl
@@ -118,7 +122,7 @@ convert-gives first s places e =
   where
     low : (b : Bool) → b ≡ true → {v : List ℕ} → unless (outsideCauses b s) (within first s places) ≡ Given v → unitsOf s ≤ sizes s .first
     low true down h = ltb-false (sizes s .first) (unitsOf s) (passed-first _ _ _ h .0)
-    low false down h = absurd (let z : _≡_ {A = ℕ} 0 1 = cc in omega arith)
+    low false down h = not-down down
 
 -- 1 to 8, 13 and 14, and 15 going down, and no other
 pub convert-numbers : (P : ℕ → Type 0) (first : Bool) → ((n : ℕ) → ReaderNumber n → P n) → P 8 → (first ≡ true → P 15) → (s : List ℕ) (places : ℕ) → Numbered P (convertRefusals first s places)
@@ -266,7 +270,7 @@ steps-written-so s first (j ∷ js) =
 pub raised-says : (s : List ℕ) → Passes s → isFirst s ≡ true → campaignOf (inEdition false s) ≡ campaignOf s
 unfolding campaignOf
 raised-says s ok first =
-    let c = converted-from false s ok (λ up. absurd (let z : _≡_ {A = ℕ} 0 1 = cc in omega arith)) in
+    let c = converted-from false s ok not-down in
     let steps = ap stepsOf (made-over false s first) ∙ remade-steps false s first (passed s ok) ∙ steps-written-so s first (recordsOn s) in
     λ i. record { units = c .units i; bound = c .bound i; start = c .start i; chambers = c .chambers i; steps = steps i }
 
@@ -277,7 +281,7 @@ raised-steps s ok first list =
     let t = inEdition false s in
     let places = length list in
     let says = raised-says s ok first in
-    let passes = converted-from false s ok (λ up. absurd (let z : _≡_ {A = ℕ} 0 1 = cc in omega arith)) .passes in
+    let passes = converted-from false s ok not-down .passes in
     let answer : stepsAnswer t places ≡ stepsAnswer s places =
     steps-staged t places
     ∙ none-holds (readCauses t) _ passes
@@ -298,7 +302,7 @@ module _ (s : List ℕ) (ok : Passes s) (first : isFirst s ≡ true) where
   pub lowered-again : (places : ℕ) → length s ≤ places → convertAnswer true (inEdition false s) places ≡ Given s
   lowered-again places room =
       let t = inEdition false s in
-      let c = converted-from false s ok (λ up. absurd (let z : _≡_ {A = ℕ} 0 1 = cc in omega arith)) in
+      let c = converted-from false s ok not-down in
       let r = passed t (c .passes) in
       let all : sizes t .first ≡ unitsOf t = ap (λ l. getD l 0 0) (c .chambers) ∙ ap (λ (z : ChamberSizes). z .first) (first-is-single s first) ∙ sym (c .units) in
       sym (convert-given true t places r (le-ltb (sizes t .first) (unitsOf t) (omega (arith, all))) (omega (arith, converted-length true t r, ap length same-again)))
