@@ -12,7 +12,7 @@ use super::plans::total_of;
 use super::small::Small;
 use super::small::all_units;
 use trials::tally::Tally;
-use warm::charting::warm_chart;
+use warm::warm_chart;
 
 // The units that can be on, and those that can be off, in each step.
 struct Cells {

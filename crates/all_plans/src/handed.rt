@@ -5,7 +5,7 @@ use super::plans::total_of;
 use super::small::Small;
 use promises::Reply;
 use trials::tally::Tally;
-use warm::planning::warm_plan;
+use warm::warm_plan;
 
 // What a lent place holds before a call.
 pub const FILL: u64 = 12297829382473034410;

@@ -6,7 +6,7 @@ use super::plans::plans_of;
 use super::plans::total_of;
 use super::small::Small;
 use trials::tally::Tally;
-use warm::judging::warm_verdict;
+use warm::warm_verdict;
 
 // Of a sheet with more plans than this, only the feasible ones are judged.
 const MANY: usize = 4096;

@@ -47,7 +47,7 @@ module _ (s : List ℕ) where
   plans-long p m = let (c, k, e) = Memᴰ·of-map _ (chambersIn s) m in ap length (sym e) ∙ support-long _ c (startOf s) (limitsOn s)
 
   -- the totals of the chambers up to number c are those before it and its own
-  sum-up-to : (c : ℕ) → c < chamberCount
+  pub sum-up-to : (c : ℕ) → c < chamberCount
       → sumOf (take (suc c) (chambersIn s)) (startOf s) (limitsOn s) ≡ sumOf (take c (chambersIn s)) (startOf s) (limitsOn s) + totalOf (chamberOn s c) (startOf s) (limitsOn s)
   unfolding sumOf dealt numbered
   sum-up-to zero h = omega arith

@@ -9,7 +9,6 @@ use sheet::parts::deal;
 use switch::plan::plan;
 use units::intersection;
 use words::clear;
-use words::join_words;
 ghost use mathlib.Core.Path.{_≡_};
 ghost use Prim.Native.Nat.{_*_, _≤_, _<_};
 ghost use lib.ListN.{length};
@@ -26,21 +25,19 @@ ghost use Rattle.campaign.specs.Benches.{chamberCount, chamberOn, Decode
 pub const CHAMBERS: usize = 4;
 
 // Joins the plan of chamber number c, which has these units, to the first places of `out`, and gives its total. Its words stay in the first places of `rows`, unless the
-// chamber is empty, and it works in `part`.
+// chamber is empty.
 fn join_chamber(
     sheet: &[u8],
     x: Summary,
     c: usize,
     units: u64,
     rows: &mut [u64],
-    part: &mut [u64],
     out: &mut [u64],
 ) -> u32
     requires { ⌜ summaryRead (now sheet) ≡ Given x ⌝ }
     requires { ⌜ c < chamberCount ⌝ }
     requires { ⌜ units ≡ chamberOn (now sheet) c .units ⌝ }
     requires { ⌜ rowSize * x .steps ≤ length (now rows) ⌝ }
-    requires { ⌜ x .steps ≤ length (now part) ⌝ }
     requires { ⌜ x .steps ≤ length (now out) ⌝ }
     ensures { λ r. ⌜ DecodedIn (now (sheet .entry)) (x .steps) (chamberOn (now (sheet .entry)) c) (now (rows .exit)) ⌝ }
     ensures { λ r. ⌜ now (out .exit) ≡ joinedTo (x .steps) (planOn (now (sheet .entry)) c) (now (out .entry)) ⌝ }
@@ -53,23 +50,14 @@ fn join_chamber(
     decode(sheet, n, c, units, rows);
     let end = Limits::WORDS * n;
     let header = x.header;
-    let total = plan(&rows[0..end], intersection(header.start, units), part);
-    join_words(part, out, n);
-    total
+    plan(&rows[0..end], intersection(header.start, units), out)
 }
 
-// The plan of a sheet that was read, into the first places of `out`, and its total. It works in `part`, and in `rows`, whose first places then have the words of the
-// first chamber, unless that is empty.
-pub fn plan_read(
-    sheet: &[u8],
-    x: Summary,
-    rows: &mut [u64],
-    part: &mut [u64],
-    out: &mut [u64],
-) -> u32
+// The plan of a sheet that was read, into the first places of `out`, and its total. It works in `rows`, whose first places then have the words of the first chamber,
+// unless that is empty.
+pub fn plan_read(sheet: &[u8], x: Summary, rows: &mut [u64], out: &mut [u64]) -> u32
     requires { ⌜ summaryRead (now sheet) ≡ Given x ⌝ }
     requires { ⌜ rowSize * x .steps ≤ length (now rows) ⌝ }
-    requires { ⌜ x .steps ≤ length (now part) ⌝ }
     requires { ⌜ x .steps ≤ length (now out) ⌝ }
     ensures { λ r. ⌜ DecodedIn (now (sheet .entry)) (x .steps) (chamberOn (now (sheet .entry)) 0) (now (rows .exit)) ⌝ }
     ensures { λ r. ⌜ now (out .exit) ≡ sets (now (out .entry)) 0 (supportOn (now (sheet .entry))) ⌝ }
@@ -83,7 +71,7 @@ pub fn plan_read(
     let mut c = CHAMBERS;
     while 0 < c {
         c -= 1;
-        total += join_chamber(sheet, x, c, us[c], rows, part, out);
+        total += join_chamber(sheet, x, c, us[c], rows, out);
     }
     total
 }

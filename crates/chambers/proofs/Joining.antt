@@ -56,6 +56,15 @@ joined-long (x ∷ p) [] n e f = f
 joined-long (x ∷ p) (y ∷ q) zero e f = absurd (omega arith)
 joined-long (x ∷ p) (y ∷ q) (suc n) e f = ap suc (joined-long p q n (omega arith) (omega arith))
 
+-- n words or fewer are joined to the first n of a list
+pub joined-first : (p out : List ℕ) (n : ℕ) → length p ≤ n → joined p out ≡ joined p (take n out)
+unfolding joined
+joined-first [] out n h = refl
+joined-first (x ∷ p) [] zero h = refl
+joined-first (x ∷ p) [] (suc n) h = refl
+joined-first (x ∷ p) (y ∷ out) zero h = absurd (omega arith)
+joined-first (x ∷ p) (y ∷ out) (suc n) h = ap (λ l. union x y ∷ l) (joined-first p out n (omega arith))
+
 -- the words of the second list, each joined to its word of the first, are the two lists joined
 pub joined-words : (p q l : List ℕ) (n : ℕ) → length p ≡ n → length q ≡ n → length l ≡ n
     → ((i : ℕ) → i < n → getD l i 0 ≡ union (getD p i 0) (getD q i 0)) → l ≡ joined p q

@@ -1,16 +1,16 @@
 // Sheets converted from one edition to the other: the reader's refusals, 15 and 8, or the bytes of the sheet in the other edition. specs/Editions.antt of `format` has these
 // bytes. `first` is true for the first edition everywhere. Nothing here is an open entry of the library.
-pub mod copy;
 pub mod remake;
 
 use format::Header;
 use format::Summary;
 use promises::Written;
 use remake::put_sheet;
+use replies::write_refused;
+use replies::written;
 use sheet::ReadAnswer;
 use sheet::Sheet;
 use sheet::record::sheet_length;
-use writer::write_refused;
 ghost use mathlib.Core.Path.{_≡_};
 ghost use mathlib.Core.Bool.{_&&_};
 ghost use lib.Dec.{ltb};
@@ -18,7 +18,7 @@ ghost use lib.ListN.{length};
 ghost use Rattle.format.specs.Answer.{Given};
 ghost use Rattle.format.specs.Stages.{summaryRead};
 ghost use Rattle.promises.specs.Convert.{convertAnswer, warmConvert};
-ghost use Rattle.promises.specs.Write.{wrote};
+ghost use Rattle.promises.specs.Common.{wrote};
 
 // Whether the first edition is wanted, which has one chamber, and a unit is outside that chamber.
 fn leaves_out(first: bool, h: Header) -> bool
@@ -54,12 +54,7 @@ fn convert_read(first: bool, sheet: &[u8], x: Summary, out: &mut [u8]) -> Writte
         return write_refused(8, length as u32);
     }
     put_sheet(first, sheet, records, out);
-    Written {
-        refusal: 0,
-        place: 0,
-        length: length as u32,
-        reserved: 0,
-    }
+    written(length as u32)
 }
 
 // A sheet in an edition, into the first places of the output.

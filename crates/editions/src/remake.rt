@@ -1,11 +1,11 @@
 // A sheet of one edition as one of the other: its header, and each of its records, those off the chain too.
-use super::copy::copy_u16;
-use super::copy::copy_u32;
-use super::copy::copy_u64;
 use sheet::Sheet;
 use sheet::record::is_first;
 use sheet::record::record_offset;
 use sheet::record::sheet_length;
+use writer::copy::copy_u16;
+use writer::copy::copy_u32;
+use writer::copy::copy_u64;
 use writer::put::put_byte;
 use writer::put::put_text;
 use writer::put::put_u16;

@@ -55,24 +55,16 @@ fn put_plan(x: Summary, sets: &[u64], total: u32, out: &mut [u8]) -> usize
     put_total_line(total, out, after_steps)
 }
 
-// Puts the listing of the plan of a sheet that was read, and gives its length. It works in `rows`, `part` and `sets`.
-fn list_read(
-    sheet: &[u8],
-    x: Summary,
-    rows: &mut [u64],
-    part: &mut [u64],
-    sets: &mut [u64],
-    out: &mut [u8],
-) -> usize
+// Puts the listing of the plan of a sheet that was read, and gives its length. It works in `rows` and `sets`.
+fn list_read(sheet: &[u8], x: Summary, rows: &mut [u64], sets: &mut [u64], out: &mut [u8]) -> usize
     requires { ⌜ summaryRead (now sheet) ≡ Given x ⌝ }
     requires { ⌜ rowSize * x .steps ≤ length (now rows) ⌝ }
-    requires { ⌜ x .steps ≤ length (now part) ⌝ }
     requires { ⌜ x .steps ≤ length (now sets) ⌝ }
     requires { ⌜ longestListing ≤ length (now out) ⌝ }
     ensures { λ r. ⌜ Placed (listing (now (sheet .entry))) (now (out .entry)) 0 (now (out .exit)) r ⌝ }
 {
     let header = x.header;
-    let total = plan_read(sheet, x, rows, part, sets);
+    let total = plan_read(sheet, x, rows, sets);
     if header.bound < total {
         return put_refused_line(9, total, out, 0);
     }
@@ -87,9 +79,8 @@ pub fn list_plan(sheet: &[u8], out: &mut [u8; LONGEST]) -> usize
         ReadAnswer::Refused(x) => put_refused_line(x.number, x.place, out, 0),
         ReadAnswer::Read(x) => {
             let mut rows = [0u64; Sheet::STEP_WORDS];
-            let mut part = [0u64; Sheet::RECORD_LIMIT];
             let mut sets = [0u64; Sheet::RECORD_LIMIT];
-            list_read(sheet, x, &mut rows, &mut part, &mut sets, out)
+            list_read(sheet, x, &mut rows, &mut sets, out)
         }
     }
 }

@@ -32,11 +32,11 @@ module _ (s : Limits) where
   high = greatestSize (s .upper) (s .greatest)
 
   -- what holds of the step as it is, and of the one with both sizes where these are in order, holds of `sized s`
-  by-sizes : (P : Limits → Type 0) → (Subset (s .lower) (s .upper) → low ≤ high → P (limits (s .lower) (s .upper) low high)) → P s → P (sized s)
+  pub by-sizes : (P : Limits → Type 0) → (Subset (s .lower) (s .upper) → low ≤ high → P (limits (s .lower) (s .upper) low high)) → P s → P (sized s)
   unfolding sized
   by-sizes P some none = either-way (s .lower) (s .upper) (s .least) (s .greatest) (λ z. P (sizedBy s z)) some (λ h. none)
 
-  sized-lower : sized s .lower ≡ s .lower
+  pub sized-lower : sized s .lower ≡ s .lower
   sized-lower = by-sizes (λ t. t .lower ≡ s .lower) (λ h l. refl) refl
 
   sized-upper : sized s .upper ≡ s .upper

@@ -28,11 +28,10 @@ use Rattle.format.proofs.Converted.{was-whole, remade-next, remade-step, remade
 use Rattle.format.proofs.Readings.{numbered-read}
 use Rattle.format.proofs.Records.{length-most}
 use Rattle.format.proofs.Remade.{has-header, copied, made-over, remade-edition, remade-units, remade-records, remade-bound, remade-start, remade-sizes, remade-long, up-and-down}
-use Rattle.promises.specs.Common.{limitsOn, FeasibleOn}
+use Rattle.promises.specs.Common.{limitsOn, FeasibleOn, fullWritten, wrote}
 use Rattle.promises.specs.declared.Written.{Written}
 use Rattle.promises.specs.Convert.{outsideCauses, roomCauses, convertRefusals, convertAnswer, warmConvert}
 use Rattle.promises.specs.Statements.{Passes, OneChamber, oneLimits, Converted}
-use Rattle.promises.specs.Write.{fullWritten, wrote}
 use Rattle.promises.specs.Steps.{stepsAnswer, stepsReply, stepsWritten, warmSteps}
 use Rattle.promises.proofs.Likeness.{Alike, alike-plan, alike-chart, alike-verdict, alike-listing, alike-sizes}
 use Rattle.promises.proofs.Listings.{lines-by-sizes}

@@ -15,11 +15,12 @@ use Rattle.plans.specs.Plans.{select, below, isFeasible, prefixed, plansOf, lea
 use Rattle.plans.specs.Support.{nextRequired, nextForbidden, requiredFirst, ranksBy, firstIn, taken, supportSet, supportFrom, findSupportBy}
 use Rattle.plans.specs.Switch.{switches, total}
 use lib.Count.{ones, onesIn}
+use Rattle.promises.specs.Common.{wrote}
 use Rattle.promises.specs.Steps.{stepsRefusals, stepsReply, stepsWritten, warmSteps}
 use Rattle.promises.specs.Plan.{fewestOn, supportOn, planRefusals, planned, warmPlan}
 use Rattle.promises.specs.Chart.{onWords, offWords, charted, warmChart}
 use Rattle.promises.specs.Verdict.{verdictRefusals, accepts, judged, warmVerdict}
-use Rattle.promises.specs.Write.{writeRefusals, wrote, warmWrite}
+use Rattle.promises.specs.Write.{writeRefusals, warmWrite}
 use Rattle.promises.specs.Convert.{convertRefusals, warmConvert}
 use Rattle.promises.specs.Digits.{decimalIn, decimal}
 use Rattle.promises.specs.Listing.{refusedLine, sizesLine, sizesLines, sizesListed, sizesListing}

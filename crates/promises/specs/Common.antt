@@ -1,4 +1,5 @@
--- What several entries share: the steps of a sheet without their tags, feasible plans, refusal 8, replies, and what an output holds.
+-- What several entries share: the steps of a sheet without their tags, feasible plans, refusal 8, what an output
+-- holds, and replies, also those of the entries that write bytes.
 use Prim.Native.Nat.{ℕ}
 use mathlib.Core.Bool.{Bool}
 use mathlib.Core.List.{List, [], _∷_, _++_, map}
@@ -7,10 +8,11 @@ use lib.ListN.{length, drop}
 use Rattle.plans.specs.declared.Limits.{Limits}
 use Rattle.plans.specs.Switch.{sized, Throughout}
 use Rattle.chambers.specs.Chambers.{Chamber, ChamberLimits, Fits, fits, partsOf}
-use Rattle.format.specs.Answer.{Cause, cause}
+use Rattle.format.specs.Answer.{Answer, Refused, Given, Cause, cause}
 use Rattle.format.specs.Format.{chambersIn, limitsOf}
 use Rattle.format.specs.Reading.{stepsOf}
 use Rattle.promises.specs.declared.Reply.{Reply}
+use Rattle.promises.specs.declared.Written.{Written}
 
 -- the steps of a sheet, without their tags
 abbrev pub limitsOn : List ℕ → List ChamberLimits
@@ -43,3 +45,15 @@ refusedReply n p = record { refusal = n; place = p; total = 0; accepted = 0 }
 
 abbrev pub fullReply : ℕ → ℕ → Reply
 fullReply total accepted = record { refusal = 0; place = 0; total = total; accepted = accepted }
+
+-- a refusal of an entry that writes bytes, and its reply for so many of them
+abbrev pub refusedWritten : ℕ → ℕ → Written
+refusedWritten n p = record { refusal = n; place = p; length = 0; reserved = 0 }
+
+abbrev pub fullWritten : ℕ → Written
+fullWritten long = record { refusal = 0; place = 0; length = long; reserved = 0 }
+
+-- the reply with the number of bytes, and the output with the bytes; a refusal leaves it as it was
+unfoldable pub wrote : List ℕ → Answer (List ℕ) → Written × List ℕ
+wrote out (Refused n p) = (refusedWritten n p, out)
+wrote out (Given bytes) = (fullWritten (length bytes), written bytes out)

@@ -9,7 +9,7 @@ use Rattle.format.specs.Editions.{inEdition}
 use Rattle.format.specs.Format.{chambersAt, unitsOf, sizes}
 use Rattle.format.specs.Reading.{readCauses}
 use Rattle.promises.specs.declared.Written.{Written}
-use Rattle.promises.specs.Write.{wrote}
+use Rattle.promises.specs.Common.{wrote}
 
 -- refusal 15, going down: a unit is outside the first chamber, which has fewer units than the sheet
 abbrev pub outsideCauses : Bool → List ℕ → List Cause

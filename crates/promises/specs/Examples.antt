@@ -12,13 +12,13 @@ use Rattle.format.specs.Writing.{sheetOf, widened}
 use Rattle.promises.specs.declared.Reply.{Reply}
 use Rattle.promises.specs.declared.StepsReply.{StepsReply}
 use Rattle.promises.specs.declared.Written.{Written}
-use Rattle.promises.specs.Common.{refusedReply, fullReply}
+use Rattle.promises.specs.Common.{refusedReply, fullReply, refusedWritten, fullWritten}
 use Rattle.promises.specs.Convert.{warmConvert}
 use Rattle.promises.specs.Steps.{warmSteps}
 use Rattle.promises.specs.Plan.{warmPlan}
 use Rattle.promises.specs.Chart.{warmChart}
 use Rattle.promises.specs.Verdict.{warmVerdict}
-use Rattle.promises.specs.Write.{refusedWritten, fullWritten, warmWrite}
+use Rattle.promises.specs.Write.{warmWrite}
 use Rattle.promises.specs.Listing.{sizesListing}
 
 -- ---- sheets

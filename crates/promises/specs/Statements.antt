@@ -1,4 +1,4 @@
--- How the demands are stated: see proofs/Demands.antt for the theorems.
+-- How the demands and requests are stated; the page proofs/Demands.antt names the files with the theorems.
 use Prim.Native.Nat.{ℕ, _≤_, _<_}
 use mathlib.Core.Path.{_≡_}
 use mathlib.Core.Bool.{Bool}

@@ -6,11 +6,11 @@ use lib.Dec.{ltb, eqb}
 use lib.ListN.{length}
 use Rattle.units.specs.Sets.{hasUnitFrom}
 use Rattle.format.specs.declared.Step.{Step}
-use Rattle.format.specs.Answer.{Answer, Refused, Given, Cause, cause, unless}
+use Rattle.format.specs.Answer.{Answer, Given, Cause, cause, unless}
 use Rattle.format.specs.Format.{unitLimit, recordLimit, sheetLength}
 use Rattle.format.specs.Writing.{sheetOf}
 use Rattle.promises.specs.declared.Written.{Written}
-use Rattle.promises.specs.Common.{written}
+use Rattle.promises.specs.Common.{wrote}
 
 -- refusals 11 and 12, for d units, a start set and n steps, where the output has so many places: d, the start set or n is outside the sheet's limits; the output
 -- is shorter than the sheet
@@ -27,17 +27,6 @@ writeRefusals d start n places =
 abbrev pub writeAnswer : ℕ → ℕ → ℕ → List Step → ℕ → Answer (List ℕ)
 writeAnswer d bound start xs places = unless (writeRefusals d start (length xs) places) (Given (sheetOf d bound start xs))
 
--- a refusal, and the reply for a sheet of that length
-abbrev pub refusedWritten : ℕ → ℕ → Written
-refusedWritten n p = record { refusal = n; place = p; length = 0; reserved = 0 }
-
-abbrev pub fullWritten : ℕ → Written
-fullWritten long = record { refusal = 0; place = 0; length = long; reserved = 0 }
-
 -- the reply with the sheet's length, and the output with the sheet; a refusal leaves it as it was
-unfoldable pub wrote : List ℕ → Answer (List ℕ) → Written × List ℕ
-wrote out (Refused n p) = (refusedWritten n p, out)
-wrote out (Given sheet) = (fullWritten (length sheet), written sheet out)
-
 unfoldable pub warmWrite : ℕ → ℕ → ℕ → List Step → List ℕ → Written × List ℕ
 warmWrite d bound start xs out = wrote out (writeAnswer d bound start xs (length out))

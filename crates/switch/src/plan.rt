@@ -15,6 +15,7 @@ ghost use lib.ListN.{length};
 ghost use Rattle.plans.specs.Rows.{stepsIn, stepAt, rankingAt, Rows};
 ghost use lib.Seq.{sets};
 ghost use Rattle.switch.specs.Stretches.{Blocks};
+ghost use Rattle.plans.specs.Plans.{joined};
 ghost use Rattle.plans.specs.Support.{supportSet, findSupport};
 ghost use Rattle.plans.specs.Switch.{Satisfiable, total};
 
@@ -52,13 +53,13 @@ fn step_set(rows: &[u64], blocks: &[u64], i: usize, before: u64) -> u64
     choose(leave, difference(begun, picked), union(begun, picked))
 }
 
-// The plan by the words of the blocks: fills the first places of `out` with it, and gives how many switches it makes from the start set.
+// The plan by the words of the blocks: joins it to what the first places of `out` hold, and gives how many switches it makes from the start set.
 fn plan_by_blocks(rows: &[u64], blocks: &[u64], start: u64, out: &mut [u64]) -> u32
     requires { ⌜ Rows (now rows) ⌝ }
     requires { ⌜ Blocks (stepsIn (now rows)) (now blocks) ⌝ }
     requires { ⌜ Satisfiable (stepsIn (now rows)) ⌝ }
     requires { ⌜ length (stepsIn (now rows)) ≤ length (now out) ⌝ }
-    ensures { λ r. ⌜ now (out .exit) ≡ sets (now (out .entry)) 0 (findSupport start (stepsIn (now (rows .entry)))) ⌝ }
+    ensures { λ r. ⌜ now (out .exit) ≡ sets (now (out .entry)) 0 (joined (findSupport start (stepsIn (now (rows .entry)))) (now (out .entry))) ⌝ }
     ensures { λ r. ⌜ r ≡ total start (findSupport start (stepsIn (now (rows .entry)))) ⌝ }
 {
     let n = rows.len() / Limits::WORDS;
@@ -68,19 +69,19 @@ fn plan_by_blocks(rows: &[u64], blocks: &[u64], start: u64, out: &mut [u64]) -> 
     while i < n {
         let set = step_set(rows, blocks, i, before);
         total += size(difference(set, before));
-        out[i] = set;
+        out[i] = union(set, out[i]);
         before = set;
         i += 1;
     }
     total
 }
 
-// Fills the first places of `out` with the plan, and gives how many switches it makes from the start set.
+// Joins the plan to what the first places of `out` hold, and gives how many switches it makes from the start set.
 pub fn plan(rows: &[u64], start: u64, out: &mut [u64]) -> u32
     requires { ⌜ Rows (now rows) ⌝ }
     requires { ⌜ Satisfiable (stepsIn (now rows)) ⌝ }
     requires { ⌜ length (stepsIn (now rows)) ≤ length (now out) ⌝ }
-    ensures { λ r. ⌜ now (out .exit) ≡ sets (now (out .entry)) 0 (findSupport start (stepsIn (now (rows .entry)))) ⌝ }
+    ensures { λ r. ⌜ now (out .exit) ≡ sets (now (out .entry)) 0 (joined (findSupport start (stepsIn (now (rows .entry)))) (now (out .entry))) ⌝ }
     ensures { λ r. ⌜ r ≡ total start (findSupport start (stepsIn (now (rows .entry)))) ⌝ }
 {
     let mut blocks = [0u64; ALL_WORDS];

@@ -1,4 +1,4 @@
--- The loop of `fill_steps` in lists: what its turns make of the list of steps, and where it stands between two turns.
+-- The loop of `warm_steps_2` in lists: what its turns make of the list of steps, and where it stands between two turns.
 use mathlib.Core.Path.{_≡_, refl, sym, ap, subst, _∙_}
 use Prim.Native.Nat.{ℕ, zero, suc, _+_, _-_, _≤_, _<_}
 use native.Mathlib.Nat.{not-suc-le-zero, le-of-suc-le-suc}
@@ -28,7 +28,7 @@ module _ (s : List ℕ) where
       ∙ append-snoc done x (stepsFrom s (nextOf s j) t ++ drop t rest)
 
   module _ (n : ℕ) (ys : List ChamberStep) where
-    -- where the loop stands, with `left` turns to go: record j is the last one read, and the list is xs. What the turns to go make of xs is what the contract says
+    -- where the loop stands, with `left` turns to go: record j is the last one read, and the list is xs. What the turns to go make of xs is what the definition says
     pub record Turn : Type 0 where
       pub left : ℕ
       pub i : ℕ

@@ -1,6 +1,5 @@
--- `Drawing` has the loop that draws one chamber after the other. `Filling` and `Walk` serve the proofs by hand of `fill_steps` and `warm_steps_2`, and `Recording`,
--- `Lending` and `Walk` that of `warm_write`.
-mod Drawing
+-- For the proofs by hand of the two entries that go through a list of structs: `Filling` is the loop of `warm_steps_2` in lists, `Recording` that of `warm_write`, `Lending` an output
+-- that is lent again for each call of the latter, and `Walk` what both walks share.
 mod Filling
 mod Lending
 mod Recording

@@ -16,7 +16,8 @@ use Rattle.format.specs.Writing.{headerBytes, recordBytes, linkIn, recordsAfter
 use Rattle.format.proofs.Answers.{refused-whatever, all-passed, given-same, unless-given}
 use Rattle.format.proofs.Writings.{sheet-length}
 use Rattle.promises.specs.declared.Written.{Written}
-use Rattle.promises.specs.Write.{writeRefusals, refusedWritten, fullWritten, wrote, warmWrite}
+use Rattle.promises.specs.Common.{refusedWritten, fullWritten, wrote}
+use Rattle.promises.specs.Write.{writeRefusals, warmWrite}
 use Rattle.promises.proofs.Writes.{limited}
 use Rattle.writer.specs.Begun.{lengthAnswer, replied, begun}
 use Rattle.writer.proofs.Places.{sets-append}

@@ -1,27 +1,23 @@
--- A loop that puts words into an output one by one: what the turns to come make of the output is what all make of it as it was, and the places that it has not come
--- to hold what they held.
+-- A loop that puts words into an output one by one: what the turns to come make of the output is what all make of it as it was.
 use mathlib.Core.Path.{_≡_, refl, sym, ap, ap₂, _∙_}
-use mathlib.Core.List.{List, [], _∷_}
-use Prim.Native.Nat.{ℕ, zero, suc, _+_, _≤_, _<_}
+use mathlib.Core.List.{List, _∷_}
+use Prim.Native.Nat.{ℕ, suc, _+_, _≤_, _<_}
 use native.Mathlib.Numerals.{add-one}
 use native.Mathlib.Omega.{arith}
 use lib.ListN.{length, length-set, length-map, take, drop, set, getD, drop-of-length-le}
-use lib.Seq.{sets, length-take-le, getD-take, drop-cons, getD-set-other}
-use Rattle.units.specs.Sets.{union, intersection}
-use Rattle.plans.specs.Plans.{joined}
+use lib.Seq.{sets, length-take-le, getD-take, drop-cons}
+use Rattle.units.specs.Sets.{intersection}
 use Rattle.chambers.specs.Parts.{cut}
 use Rattle.chambers.proofs.Joined.{getD-cut}
-use Rattle.chambers.proofs.Joining.{joined-long}
 
 -- the words of an output after i of them were put
 pub record Filling (words before now : List ℕ) (i : ℕ) : Type 0 where
   pub within : i ≤ length words
   pub same-long : length now ≡ length before
-  pub kept : (j : ℕ) → i ≤ j → getD now j 0 ≡ getD before j 0
   pub ends : sets now i (drop i words) ≡ sets before 0 words
 
 pub fill-begun : (words before : List ℕ) → Filling words before before 0
-fill-begun words before = record { within = omega arith; same-long = refl; kept = λ j h. refl; ends = refl }
+fill-begun words before = record { within = omega arith; same-long = refl; ends = refl }
 
 module _ {words before now : List ℕ} {i : ℕ} (g : Filling words before now i) where
   -- the next word is put
@@ -31,7 +27,6 @@ module _ {words before now : List ℕ} {i : ℕ} (g : Filling words before now i
       record {
         within = omega arith;
         same-long = length-set now i word ∙ g .same-long;
-        kept = λ j k. getD-set-other now i j word 0 (omega arith) ∙ g .kept j (omega arith);
         ends = ap₂ (λ (k m : ℕ). sets (set now i word) k (drop m words)) (add-one i) (add-one i) ∙ ap (sets now i) (sym rest) ∙ g .ends;
       }
 
@@ -41,15 +36,7 @@ module _ {words before now : List ℕ} {i : ℕ} (g : Filling words before now i
 
 -- ---- the words that are put
 
--- of lists of words joined, the word at i is both of theirs
-getD-joined : (p q : List ℕ) (i : ℕ) → i < length p → i < length q → getD (joined p q) i 0 ≡ union (getD p i 0) (getD q i 0)
-unfolding joined
-getD-joined [] q i l k = absurd (omega arith)
-getD-joined (x ∷ p) [] i l k = absurd (omega arith)
-getD-joined (x ∷ p) (y ∷ q) zero l k = refl
-getD-joined (x ∷ p) (y ∷ q) (suc i) l k = getD-joined p q i (omega arith) (omega arith)
-
--- the first n words, cut down to some units, and joined to others
+-- the first n words, also cut down to some units
 module _ (from : List ℕ) (n : ℕ) (room : n ≤ length from) where
   pub first-long : length (take n from) ≡ n
   first-long = length-take-le n from room
@@ -59,12 +46,3 @@ module _ (from : List ℕ) (n : ℕ) (room : n ≤ length from) where
 
   pub cut-at : (units i : ℕ) → i < n → intersection (getD from i 0) units ≡ getD (cut units (take n from)) i 0
   cut-at units i h = sym (getD-cut units (take n from) i (omega (arith, first-long)) ∙ ap (λ (x : ℕ). intersection x units) (getD-take n from i 0 h))
-
-  module _ (to : List ℕ) (room-to : n ≤ length to) where
-    pub both-long : length (joined (take n from) (take n to)) ≡ n
-    both-long = joined-long (take n from) (take n to) n first-long (length-take-le n to room-to)
-
-    pub both-at : (i : ℕ) → i < n → union (getD from i 0) (getD to i 0) ≡ getD (joined (take n from) (take n to)) i 0
-    both-at i h =
-        sym (getD-joined (take n from) (take n to) i (omega (arith, first-long)) (omega (arith, length-take-le n to room-to))
-        ∙ ap₂ union (getD-take n from i 0 h) (getD-take n to i 0 h))

@@ -1,13 +1,10 @@
-// What is done with the words of outputs, one word a step: they are cleared, copied, cut down to some units, and joined. Nothing here is an open entry of the
-// library.
+// What is done with the words of outputs, one word a step: they are cleared, copied, and cut down to some units. Nothing here is an open entry of the library.
 use units::intersection;
-use units::union;
 ghost use mathlib.Core.Path.{_≡_};
 ghost use Prim.Native.Nat.{_≤_};
 ghost use lib.ListN.{length, replicate, take};
 ghost use lib.Seq.{sets};
 ghost use Rattle.chambers.specs.Parts.{cut};
-ghost use Rattle.plans.specs.Plans.{joined};
 
 // Sets the first n words to 0, and leaves the others as they were.
 pub fn clear(out: &mut [u64], n: usize)
@@ -43,19 +40,6 @@ pub fn cut_words(from: &[u64], units: u64, to: &mut [u64], n: usize)
     let mut i = 0;
     while i < n {
         to[i] = intersection(from[i], units);
-        i += 1;
-    }
-}
-
-// Joins the first n words to those of an output.
-pub fn join_words(from: &[u64], to: &mut [u64], n: usize)
-    requires { ⌜ n ≤ length (now from) ⌝ }
-    requires { ⌜ n ≤ length (now to) ⌝ }
-    ensures { λ _. ⌜ now (to .exit) ≡ sets (now (to .entry)) 0 (joined (take n (now (from .entry))) (take n (now (to .entry)))) ⌝ }
-{
-    let mut i = 0;
-    while i < n {
-        to[i] = union(from[i], to[i]);
         i += 1;
     }
 }

@@ -6,7 +6,8 @@ use lib.Seq.{sets}
 use Rattle.format.specs.Answer.{Answer, Refused, Given, unless}
 use Rattle.format.specs.Format.{sheetLength}
 use Rattle.promises.specs.declared.Written.{Written}
-use Rattle.promises.specs.Write.{writeRefusals, refusedWritten, fullWritten}
+use Rattle.promises.specs.Common.{refusedWritten, fullWritten}
+use Rattle.promises.specs.Write.{writeRefusals}
 
 -- one refusal of 11 and 12, or the length of the sheet, for d units, a start set, n steps and an output of so many places
 abbrev pub lengthAnswer : ℕ → ℕ → ℕ → ℕ → Answer ℕ

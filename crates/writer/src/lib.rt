@@ -1,10 +1,13 @@
-// What is put into an output: bytes, texts and numbers, and a sheet that is written, up to the loop over its steps: refusals 11 and 12, the header, and one
+// What is put into an output: bytes, texts, numbers and fields that are copied, and a sheet that is written, up to the loop over its steps: refusals 11 and 12, the header, and one
 // record. Sheets are written in edition 1, and specs/Writing.antt of `format` has their bytes. Nothing here is an open entry of the library.
+pub mod copy;
 pub mod put;
 pub mod records;
 
 use promises::Written;
 use records::put_header;
+use replies::write_refused;
+use replies::written;
 use sheet::Sheet;
 ghost use mathlib.Core.Path.{_≡_};
 ghost use mathlib.Core.Bool.{true};
@@ -12,20 +15,7 @@ ghost use Prim.Native.Nat.{_-_, _/_};
 ghost use lib.ListN.{length};
 ghost use Rattle.format.specs.Format.{recordSize};
 ghost use Rattle.format.specs.Writing.{headerBytes, linkIn};
-ghost use Rattle.promises.specs.Write.{refusedWritten};
 ghost use Rattle.writer.specs.Begun.{lengthAnswer, replied, begun};
-
-// A refusal.
-pub fn write_refused(number: u32, place: u32) -> Written
-    ensures { λ r. ⌜ r ≡ refusedWritten number place ⌝ }
-{
-    Written {
-        refusal: number,
-        place,
-        length: 0,
-        reserved: 0,
-    }
-}
 
 // The reply for a sheet of n steps, where the output has so many places.
 fn write_reply(units: u8, start: u64, n: usize, places: usize) -> Written
@@ -47,12 +37,7 @@ fn write_reply(units: u8, start: u64, n: usize, places: usize) -> Written
     if places < length {
         return write_refused(12, length as u32);
     }
-    Written {
-        refusal: 0,
-        place: 0,
-        length: length as u32,
-        reserved: 0,
-    }
+    written(length as u32)
 }
 
 // Begins a sheet of n steps: the reply, and the header where nothing is refused.

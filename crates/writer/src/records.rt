@@ -16,7 +16,7 @@ ghost use Rattle.format.specs.Format.{headerSize, recordLimit, recordOffset, sh
 ghost use Rattle.format.specs.Writing.{headerBytes, recordBytes, linkIn};
 
 // The number that record j of n holds of the record after it, 0 if it is the last; the header counts as record 0.
-fn link_in(j: usize, n: usize) -> u64
+pub fn link_in(j: usize, n: usize) -> u64
     requires { ⌜ n ≤ recordLimit ⌝ }
     ensures { λ r. ⌜ r ≡ linkIn j n ⌝ }
 {

@@ -4,7 +4,7 @@ use denote.Ref.{now}
 use lib.ListN.{length}
 use Rattle.sheet.specs.Told.{readTold}
 use Rattle.promises.specs.Convert.{warmConvert}
-use Rattle.promises.specs.Write.{wrote}
+use Rattle.promises.specs.Common.{wrote}
 use Rattle.promises.proofs.Converts.{convert-unread}
 use borrow.Author.Needs.{needs}
 use Rattle.editions.proofs.convert.Statement.{statement}

@@ -10,7 +10,7 @@ use Rattle.format.specs.declared.Summary.{Summary}
 use Rattle.format.specs.Editions.{inEdition}
 use Rattle.format.specs.Format.{chambersAt, sheetLength, isFirst}
 use Rattle.promises.specs.declared.Written.{Written}
-use Rattle.promises.specs.Write.{refusedWritten, fullWritten, wrote}
+use Rattle.promises.specs.Common.{refusedWritten, fullWritten, wrote}
 use Rattle.promises.proofs.Converts.{converted-length, converted-most, convert-outside, convert-short, convert-given}
 use Rattle.promises.proofs.Read.{was-opened}
 use borrow.Author.Needs.{needs}
@@ -73,11 +73,14 @@ put-sheet-requires c κs =
       (omega (arith, records, o .sound .few-records), (o .sound .whole ∙ ap (sheetLength (isFirst (now (k .args .sheet)))) (sym records), omega (arith, c .before .before .sheet-length .ensures, c .before .if2 .left))),
     )
 
-cast-t15 : tie.Need-cast-t15
-cast-t15 c =
+cast-written : tie.Need-cast-written
+cast-written c =
     let k = c .before .before .before .before .before .before .before .before .before .before .before in
     let long = c .before .before .before .before .before .sheet-length .ensures ∙ ap (sheetLength (k .args .first)) (c .before .before .before .before .before .before .record-count .ensures) in
     record { fits = omega (arith, long, converted-most (k .args .first) (now (k .args .sheet)) (k .pre)) }
+
+written-requires : tie.Need-written-requires
+written-requires c κs = search needs
 
 same-length : tie.Need-same-length
 same-length c = search needs
@@ -85,15 +88,16 @@ same-length c = search needs
 returns-3 : tie.Need-returns-3
 unfolding wrote
 returns-3 c =
-    let k = c .before .before .before .before .before .before .before .before .before .before .before in
+    let k = c .before .before .before .before .before .before .before .before .before .before .before .before in
     let s = now (k .args .sheet) in
     let out = now (k .args .out) in
     let first = k .args .first in
-    let long = c .before .before .before .before .before .sheet-length .ensures ∙ ap (sheetLength first) (c .before .before .before .before .before .before .record-count .ensures) in
-    let room : sheetLength first (k .args .x .header .records) ≤ length out = omega (arith, long, c .before .before .before .before .if2 .left) in
-    let inside = sym (c .before .before .before .before .before .before .before .before .leaves-out .ensures) ∙ c .before .before .before .before .before .before .before .if1 .left in
-    ap₂ {C = Written × List ℕ} (λ (n : ℕ) l. (fullWritten n, l)) (long ∙ sym (converted-length first s (k .pre)))
-    (c .before .before .put-sheet .ensures ∙ sets-first (inEdition first s) out (omega (arith, converted-length first s (k .pre), room)))
+    let long = c .before .before .before .before .before .before .sheet-length .ensures ∙ ap (sheetLength first) (c .before .before .before .before .before .before .before .record-count .ensures) in
+    let room : sheetLength first (k .args .x .header .records) ≤ length out = omega (arith, long, c .before .before .before .before .before .if2 .left) in
+    let inside = sym (c .before .before .before .before .before .before .before .before .before .leaves-out .ensures) ∙ c .before .before .before .before .before .before .before .before .if1 .left in
+    let all : c .written .result ≡ fullWritten (c .before .before .before .before .before .before .sheet-length .result) = c .written .ensures in
+    ap₂ {C = Written × List ℕ} (λ r l. (r, l)) (all ∙ ap fullWritten (long ∙ sym (converted-length first s (k .pre))))
+    (c .before .before .before .put-sheet .ensures ∙ sets-first (inEdition first s) out (omega (arith, converted-length first s (k .pre), room)))
     ∙ ap (wrote out) (convert-given first s (length out) (k .pre) inside room)
 
 pub convert-read-spec : {M : Type 1} → statement M
@@ -110,6 +114,7 @@ convert-read-spec =
     write-refused-requires-2
     returns-2
     put-sheet-requires
-    cast-t15
+    cast-written
+    written-requires
     same-length
     returns-3)

@@ -28,14 +28,11 @@ slice-aggregate-list-read c = search needs
 slice-aggregate-list-read-2 : tie.Need-slice-aggregate-list-read-2
 slice-aggregate-list-read-2 c = search needs
 
-slice-aggregate-list-read-3 : tie.Need-slice-aggregate-list-read-3
-slice-aggregate-list-read-3 c = search needs
-
 list-read-requires : tie.Need-list-read-requires
 list-read-requires c κs =
-    let read = sym (c .before .before .before .before .before .before .before .read .ensures) ∙ ap readTold (c .before .before .before .before .before .x2 .given .1) in
-    let few = was-opened (now (c .before .before .before .before .before .before .before .before .before .args .sheet)) read .few in
-    (read, (omega (arith, few), (omega (arith, few), (omega (arith, few), omega arith))))
+    let read = sym (c .before .before .before .before .before .before .read .ensures) ∙ ap readTold (c .before .before .before .before .x2 .given .1) in
+    let few = was-opened (now (c .before .before .before .before .before .before .before .before .args .sheet)) read .few in
+    (read, (omega (arith, few), (omega (arith, few), omega arith)))
 
 returns : tie.Need-returns
 returns c =
@@ -43,7 +40,7 @@ returns c =
     (placed-as (listing-unread (now (c .before .before .before .before .before .before .before .args .sheet)) (sym (c .before .before .before .before .before .read .ensures) ∙ ap readTold (c .before .before .before .x .given .1))) (c .put-refused-line .ensures))
 
 returns-2 : tie.Need-returns-2
-returns-2 c = placed-first (c .before .before .before .list-read .ensures)
+returns-2 c = placed-first (c .before .before .list-read .ensures)
 
 pub list-plan-spec : {M : Type 1} → statement M
 list-plan-spec =
@@ -55,7 +52,6 @@ list-plan-spec =
     enum-known-x-2
     slice-aggregate-list-read
     slice-aggregate-list-read-2
-    slice-aggregate-list-read-3
     list-read-requires
     returns
     returns-2)

@@ -5,7 +5,8 @@ use native.Mathlib.Omega.{arith}
 use borrow.Author.Tests.{eq-eqb, ne-eqb, lt-ltb, le-ltb}
 use Rattle.format.specs.Format.{unitLimit, recordLimit, sheetLength}
 use Rattle.format.proofs.Answers.{refused-by, passed-by, none-left}
-use Rattle.promises.specs.Write.{writeRefusals, refusedWritten}
+use Rattle.promises.specs.Common.{refusedWritten, fullWritten}
+use Rattle.promises.specs.Write.{writeRefusals}
 use Rattle.writer.specs.Begun.{replied}
 use borrow.Author.Needs.{needs}
 use Rattle.writer.proofs.write_reply.Statement.{statement}
@@ -84,17 +85,21 @@ returns-5 c =
     (passed-by _ _ _ (le-ltb recordLimit (a .n) (omega arith))
     (refused-by _ _ _ (lt-ltb (a .places) (sheetLength true (a .n)) (omega arith)))))))
 
-cast-t9 : tie.Need-cast-t9
-cast-t9 c = search needs
+cast-written : tie.Need-cast-written
+cast-written c = search needs
+
+written-requires : tie.Need-written-requires
+written-requires c κs = search needs
 
 returns-6 : tie.Need-returns-6
 unfolding writeRefusals replied
 returns-6 c =
-    let a = c .before .before .before .before .before .before .args in
-    ap replied
+    let a = c .before .before .before .before .before .before .before .args in
+    let all : c .written .result ≡ fullWritten (sheetLength true (a .n)) = c .written .ensures in
+    all ∙ ap replied
     (passed-by _ _ _ (ne-eqb (a .units) 0 (omega arith))
     (passed-by _ _ _ (le-ltb unitLimit (a .units) (omega arith))
-    (passed-by _ _ _ (sym (c .before .before .before .has-unit-from .ensures) ∙ c .before .before .if3 .left)
+    (passed-by _ _ _ (sym (c .before .before .before .before .has-unit-from .ensures) ∙ c .before .before .before .if3 .left)
     (passed-by _ _ _ (le-ltb recordLimit (a .n) (omega arith))
     (passed-by _ _ _ (le-ltb (a .places) (sheetLength true (a .n)) (omega arith))
     (none-left _))))))
@@ -117,5 +122,6 @@ write-reply-spec =
     cast-write-refused
     write-refused-requires-5
     returns-5
-    cast-t9
+    cast-written
+    written-requires
     returns-6)

@@ -1,12 +1,12 @@
--- `switch::plan::plan_by_blocks` meets its contract. The loop's invariant is `Planned`: the first i places are written, and with the plan from there on they are the
--- whole plan; the switches so far, with those still to come, are its total.
+-- `switch::plan::plan_by_blocks` meets its contract. The loop's invariant is `Planned`: the plan is joined to the first i places, and with the plan from there on joined to the others it is joined to
+-- all; the switches so far, with those still to come, are its total.
 use mathlib.Core.Path.{_≡_, ap, _∙_}
 use Prim.Native.Nat.{_-_, _≤_}
 use native.Mathlib.Omega.{arith}
 use borrow.Author.Needs.{needs}
 use denote.Ref.{now}
-use lib.ListN.{length}
-use Rattle.units.specs.Sets.{difference, size}
+use lib.ListN.{length, getD}
+use Rattle.units.specs.Sets.{union, difference, size}
 use Rattle.units.proofs.Sets.{size-below}
 use Rattle.plans.specs.Rows.{stepsIn}
 use Rattle.plans.proofs.Laid.{steps-at}
@@ -39,27 +39,38 @@ size-requires c κs = search needs
 add-total : tie.Need-add-total Inv-loop μ-loop
 add-total c = omega (arith, few c, c .before .before .before .before .loop .inv .1 .small, c .before .before .before .before .loop .inv .0, c .before .before .before .before .before .before .before .before .pre .0 .few)
 
+mul-union : tie.Need-mul-union Inv-loop μ-loop
+mul-union c = omega (arith, c .before .before .before .before .loop .inv .0, c .before .before .before .before .before .before .before .before .pre .0 .few)
+
+slice-read-union : tie.Need-slice-read-union Inv-loop μ-loop
+slice-read-union c = omega (arith, c .before .before .before .before .loop-test .taken, c .before .before .before .before .before .before .before .before .before .pre .0 .whole, c .before .before .before .before .before .before .before .before .before .pre .1 .1 .1, c .before .before .before .before .before .loop .inv .1 .same-long)
+
+union-requires : tie.Need-union-requires Inv-loop μ-loop
+union-requires c κs = search needs
+
 mul-out : tie.Need-mul-out Inv-loop μ-loop
-mul-out c = omega (arith, c .before .before .before .before .loop .inv .0, c .before .before .before .before .before .before .before .before .pre .0 .few)
+mul-out c = omega (arith, c .before .before .before .before .before .before .loop .inv .0, c .before .before .before .before .before .before .before .before .before .before .pre .0 .few)
 
 slice-write-out : tie.Need-slice-write-out Inv-loop μ-loop
-slice-write-out c = omega (arith, c .before .before .before .loop-test .taken, c .before .before .before .before .before .before .before .before .pre .0 .whole, c .before .before .before .before .before .before .before .before .pre .1 .1 .1, c .before .before .before .before .loop .inv .1 .same-long)
+slice-write-out c = omega (arith, c .before .before .before .before .before .loop-test .taken, c .before .before .before .before .before .before .before .before .before .before .pre .0 .whole, c .before .before .before .before .before .before .before .before .before .before .pre .1 .1 .1, c .before .before .before .before .before .before .loop .inv .1 .same-long)
 
 add-i : tie.Need-add-i Inv-loop μ-loop
-add-i c = omega (arith, c .before .before .before .before .loop .inv .0, c .before .before .before .before .before .before .before .before .pre .0 .few)
+add-i c = omega (arith, c .before .before .before .before .before .before .loop .inv .0, c .before .before .before .before .before .before .before .before .before .before .pre .0 .few)
 
 loop-less : tie.Need-loop-less Inv-loop μ-loop
-loop-less c = omega (arith, c .before .before .before .loop-test .taken, c .before .before .before .before .before .before .before .before .pre .0 .whole)
+loop-less c = omega (arith, c .before .before .before .before .before .loop-test .taken, c .before .before .before .before .before .before .before .before .before .before .pre .0 .whole)
 
 loop-again : tie.Need-loop-again Inv-loop μ-loop
 loop-again c =
-    let l = c .before .before .before .before .loop in
-    let in-range = c .before .before .before .loop-test .taken in
-    let ss = stepsIn (now (c .before .before .before .before .before .before .before .before .args .rows)) in
-    let set = c .before .before .step-set .result in
-    let many : c .size .result ≡ size (difference set (l .before)) = c .size .ensures ∙ ap size (c .before .difference .ensures) in (
-      omega (arith, c .before .before .before .before .before .before .before .before .pre .0 .whole),
-      rw many (plan-on (l .inv .1) set (steps-at ss (l .i) (omega (arith, c .before .before .before .before .before .before .before .before .pre .0 .whole))) (c .before .before .step-set .ensures) (omega (arith, many, few c))),
+    let k = c .before .before .before .before .before .before .before .before .before .before in
+    let l = c .before .before .before .before .before .before .loop in
+    let in-range = c .before .before .before .before .before .loop-test .taken in
+    let ss = stepsIn (now (k .args .rows)) in
+    let set = c .before .before .before .before .step-set .result in
+    let many : c .before .before .size .result ≡ size (difference set (l .before)) = c .before .before .size .ensures ∙ ap size (c .before .before .before .difference .ensures) in
+    let word : c .union .result ≡ union set (getD (l .out) (l .i) 0) = c .union .ensures in (
+      omega (arith, k .pre .0 .whole),
+      rw (many, word) (plan-on (l .inv .1) set (steps-at ss (l .i) (omega (arith, k .pre .0 .whole))) (c .before .before .before .before .step-set .ensures) (omega (arith, many, few (c .before .before))) (omega (arith, k .pre .0 .whole, k .pre .1 .1 .1))),
     )
 
 same-length : tie.Need-same-length Inv-loop μ-loop
@@ -79,6 +90,9 @@ plan-by-blocks-spec =
     difference-requires
     size-requires
     add-total
+    mul-union
+    slice-read-union
+    union-requires
     mul-out
     slice-write-out
     add-i

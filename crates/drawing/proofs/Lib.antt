@@ -1,0 +1,2 @@
+-- `Chambers` has the loop that draws one chamber after the other.
+mod Chambers
