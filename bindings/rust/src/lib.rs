@@ -121,24 +121,13 @@ mod ffi;
 mod owned;
 mod refusal;
 
+pub use ffi::{ChamberStep, Step, BYTES, CHAMBERS, STEPS, UNITS};
 #[cfg(feature = "alloc")]
 pub use owned::{chart_vec, plan_vec, steps_vec, to_edition_1_vec, to_edition_2_vec, write_vec};
 pub use refusal::{Error, Place, Refusal, UnknownRefusal};
 
 /// The version of the library's C interface that this crate is written for.
 pub const VERSION: u32 = 2;
-
-/// The most units that a sheet can have.
-pub const UNITS: usize = 64;
-
-/// The most chambers that a sheet can have.
-pub const CHAMBERS: usize = 4;
-
-/// The most steps that a sheet can have: outputs of this many places are always enough.
-pub const STEPS: usize = 256;
-
-/// The most bytes that a sheet can have: an output of this many is always enough.
-pub const BYTES: usize = 24 + 32 * STEPS;
 
 /// A sheet to try: three units, of which at most two may be on, and four steps that need unit 0, unit 1, unit 2 and unit 0 again. The bound
 /// is three warm-ups, and nothing is on at the start.
@@ -148,66 +137,6 @@ pub const FOUR_RUNS: [u8; 120] = *b"\
     \x02\0\0\0\0\0\0\0\x07\0\0\0\0\0\0\0\0\x02\x03\0\0\0\0\0\
     \x04\0\0\0\0\0\0\0\x07\0\0\0\0\0\0\0\0\x02\x04\0\0\0\0\0\
     \x01\0\0\0\0\0\0\0\x07\0\0\0\0\0\0\0\0\x02\0\0\0\0\0\0";
-
-/// One step of a sheet that is read, from [`steps`]. Unit `u` has weight 2^u in a set, and chamber `c` has place `c - 1` in an array. The
-/// default is no step of use: it fills lists that are lent.
-#[repr(C)]
-#[derive(Clone, Copy, Debug, Default, PartialEq, Eq, Hash)]
-#[non_exhaustive]
-pub struct ChamberStep {
-    /// The units that must be on.
-    pub lower: u64,
-    /// The units that may be on.
-    pub upper: u64,
-    /// The least number of units on, for each chamber.
-    pub least: [u8; CHAMBERS],
-    /// The greatest number of units on, for each chamber.
-    pub greatest: [u8; CHAMBERS],
-    /// The job tag, any value.
-    pub tag: u32,
-    /// 0 in a step that was read.
-    pub reserved: u32,
-}
-
-impl ChamberStep {
-    /// A step from its lower and upper set, the least and greatest numbers of its chambers and its tag.
-    #[must_use]
-    pub const fn new(lower: u64, upper: u64, least: [u8; CHAMBERS], greatest: [u8; CHAMBERS], tag: u32) -> ChamberStep {
-        ChamberStep { lower, upper, least, greatest, tag, reserved: 0 }
-    }
-}
-
-/// What is read of a step that was written: its numbers are those of chamber 1, and the others are 0.
-impl From<Step> for ChamberStep {
-    fn from(step: Step) -> ChamberStep {
-        ChamberStep::new(step.lower, step.upper, [step.least, 0, 0, 0], [step.greatest, 0, 0, 0], step.tag)
-    }
-}
-
-/// One step of a sheet that is written, which has one chamber, for [`write()`]. Unit `u` has weight 2^u in a set.
-#[repr(C)]
-#[derive(Clone, Copy, Debug, Default, PartialEq, Eq, Hash)]
-#[non_exhaustive]
-pub struct Step {
-    /// The units that must be on.
-    pub lower: u64,
-    /// The units that may be on.
-    pub upper: u64,
-    /// The least number of units on.
-    pub least: u8,
-    /// The greatest number of units on.
-    pub greatest: u8,
-    /// The job tag, any value.
-    pub tag: u32,
-}
-
-impl Step {
-    /// A step from its lower and upper set, its least and greatest number and its tag.
-    #[must_use]
-    pub const fn new(lower: u64, upper: u64, least: u8, greatest: u8, tag: u32) -> Step {
-        Step { lower, upper, least, greatest, tag }
-    }
-}
 
 /// What a sheet says, from [`steps`]: the steps as `&[ChamberStep]`, or as `Vec<ChamberStep>` from `steps_vec`.
 #[derive(Clone, Copy, Debug, PartialEq, Eq, Hash)]
@@ -272,9 +201,7 @@ pub struct Verdict {
 ///
 /// Refusals 1 to 8, 13 and 14; the list is then as it was.
 pub fn steps<'a>(sheet: &[u8], list: &'a mut [ChamberStep]) -> Result<Campaign<&'a [ChamberStep]>, Error> {
-    // SAFETY: each pointer and length is that of a live slice, the one that is written to is lent for writing, and the library keeps
-    // neither. Whatever it writes to a place is a valid `ChamberStep`.
-    let reply = unsafe { ffi::warm_steps_2(sheet.as_ptr(), sheet.len(), list.as_mut_ptr(), list.len()) };
+    let reply = ffi::steps(sheet, list);
     full(reply.refusal, reply.place)?;
     let steps = first(list, reply.steps as usize);
     Ok(Campaign { units: reply.units, bound: reply.bound, start: reply.start, chambers: reply.chambers, steps })
@@ -320,9 +247,7 @@ pub fn step_count(sheet: &[u8]) -> Result<usize, Error> {
 ///
 /// Refusals 1 to 9, 13 and 14; the output is then as it was.
 pub fn plan<'a>(sheet: &[u8], output: &'a mut [u64]) -> Result<Plan<&'a [u64]>, Error> {
-    // SAFETY: each pointer and length is that of a live slice, the one that is written to is lent for writing, and the library keeps
-    // neither.
-    let reply = unsafe { ffi::warm_plan(sheet.as_ptr(), sheet.len(), output.as_mut_ptr(), output.len()) };
+    let reply = ffi::plan(sheet, output);
     full(reply.refusal, reply.place)?;
     Ok(Plan { sets: first(output, step_count(sheet)?), total: reply.total })
 }
@@ -346,10 +271,7 @@ pub fn plan<'a>(sheet: &[u8], output: &'a mut [u64]) -> Result<Plan<&'a [u64]>, 
 ///
 /// Refusals 1 to 9, 13 and 14; both outputs are then as they were.
 pub fn chart<'a>(sheet: &[u8], on: &'a mut [u64], off: &'a mut [u64]) -> Result<Chart<&'a [u64]>, Error> {
-    // SAFETY: each pointer and length is that of a live slice, the two that are written to are lent for writing and cannot overlap, and the
-    // library keeps none.
-    let reply =
-        unsafe { ffi::warm_chart(sheet.as_ptr(), sheet.len(), on.as_mut_ptr(), on.len(), off.as_mut_ptr(), off.len()) };
+    let reply = ffi::chart(sheet, on, off);
     full(reply.refusal, reply.place)?;
     let count = step_count(sheet)?;
     Ok(Chart { on: first(on, count), off: first(off, count), total: reply.total })
@@ -370,8 +292,7 @@ pub fn chart<'a>(sheet: &[u8], on: &'a mut [u64], off: &'a mut [u64]) -> Result<
 ///
 /// Refusals 1 to 7, 10, 13 and 14.
 pub fn verdict(sheet: &[u8], plan: &[u64]) -> Result<Verdict, Error> {
-    // SAFETY: each pointer and length is that of a live slice; the library writes to neither and keeps neither.
-    let reply = unsafe { ffi::warm_verdict(sheet.as_ptr(), sheet.len(), plan.as_ptr(), plan.len()) };
+    let reply = ffi::verdict(sheet, plan);
     full(reply.refusal, reply.place)?;
     Ok(Verdict { accepted: reply.accepted != 0, total: reply.total })
 }
@@ -396,10 +317,7 @@ pub fn verdict(sheet: &[u8], plan: &[u64]) -> Result<Verdict, Error> {
 ///
 /// Refusals 11 and 12; the output is then as it was.
 pub fn write<'a>(units: u8, bound: u16, start: u64, steps: &[Step], output: &'a mut [u8]) -> Result<&'a [u8], Error> {
-    // SAFETY: each pointer and length is that of a live slice, the one that is written to is lent for writing, and the library keeps
-    // neither.
-    let reply =
-        unsafe { ffi::warm_write(units, bound, start, steps.as_ptr(), steps.len(), output.as_mut_ptr(), output.len()) };
+    let reply = ffi::write(units, bound, start, steps, output);
     full(reply.refusal, reply.place)?;
     Ok(first(output, reply.length as usize))
 }
@@ -426,9 +344,7 @@ pub fn write<'a>(units: u8, bound: u16, start: u64, steps: &[Step], output: &'a 
 ///
 /// Refusals 1 to 8 and 13 to 15; the output is then as it was.
 pub fn to_edition_1<'a>(sheet: &[u8], output: &'a mut [u8]) -> Result<&'a [u8], Error> {
-    // SAFETY: each pointer and length is that of a live slice, the one that is written to is lent for writing and cannot overlap the other, and
-    // the library keeps neither.
-    let reply = unsafe { ffi::warm_to_edition_1(sheet.as_ptr(), sheet.len(), output.as_mut_ptr(), output.len()) };
+    let reply = ffi::to_edition_1(sheet, output);
     full(reply.refusal, reply.place)?;
     Ok(first(output, reply.length as usize))
 }
@@ -454,9 +370,7 @@ pub fn to_edition_1<'a>(sheet: &[u8], output: &'a mut [u8]) -> Result<&'a [u8], 
 ///
 /// Refusals 1 to 8, 13 and 14; the output is then as it was.
 pub fn to_edition_2<'a>(sheet: &[u8], output: &'a mut [u8]) -> Result<&'a [u8], Error> {
-    // SAFETY: each pointer and length is that of a live slice, the one that is written to is lent for writing and cannot overlap the other, and
-    // the library keeps neither.
-    let reply = unsafe { ffi::warm_to_edition_2(sheet.as_ptr(), sheet.len(), output.as_mut_ptr(), output.len()) };
+    let reply = ffi::to_edition_2(sheet, output);
     full(reply.refusal, reply.place)?;
     Ok(first(output, reply.length as usize))
 }
