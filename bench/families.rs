@@ -72,7 +72,7 @@ impl Family {
     fn step(self, random: &mut Random, i: usize, n: usize, d: u32) -> Step {
         let odd = i % 2 == 1;
         let few = (d / 8).max(1);
-        let any = |least: u32, greatest: u32| Step { lower: 0, upper: all_units(d), least: least as u8, greatest: greatest as u8, tag: i as u32 };
+        let any = |least: u32, greatest: u32| Step::new(0, all_units(d), least as u8, greatest as u8, i as u32);
         let asked = |unit: u32, step: Step| Step { lower: 1 << unit, ..step };
         match self {
             // one unit asked in each step, few on at the most
@@ -147,7 +147,7 @@ impl Family {
 
     // A sheet with a chain that goes through the records in a scrambled order, where n and 77 have no common divisor.
     pub fn sheet(self, n: usize, d: u32, random: &mut Random) -> Vec<u8> {
-        let steps: Vec<ChamberStep> = (0..n).map(|i| self.step(random, i, n, d).in_first()).collect();
+        let steps: Vec<ChamberStep> = (0..n).map(|i| self.step(random, i, n, d).into()).collect();
         write_sheet(None, &steps, d, |i| 1 + i * 77 % n)
     }
 
@@ -170,17 +170,9 @@ impl Family {
     }
 }
 
-impl Step {
-    // As it is read: its numbers are those of chamber 1.
-    fn in_first(self) -> ChamberStep {
-        let Step { lower, upper, least, greatest, tag } = self;
-        ChamberStep { lower, upper, least: [least, 0, 0, 0], greatest: [greatest, 0, 0, 0], tag, reserved: 0 }
-    }
-}
-
 // The sheet of examples/four_runs.sheet, in the order of its records.
 pub fn four_runs() -> Vec<u8> {
-    let steps = [1, 2, 4, 1].map(|lower| Step { lower, upper: 7, least: 0, greatest: 2, tag: 0 }.in_first());
+    let steps = [1, 2, 4, 1].map(|lower| Step::new(lower, 7, 0, 2, 0).into());
     write_sheet(None, &steps, 3, |i| i + 1)
 }
 

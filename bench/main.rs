@@ -2,6 +2,8 @@
 // stack; with another archive, its times as well. bench/run builds and starts it, with the stack limits as arguments (NAME BYTES ...). docs/FORMAT.md has
 // the entries.
 mod families;
+// The types and entries of include/warm.h, as the Rust crate has them.
+#[path = "../bindings/rust/src/ffi.rs"]
 mod library;
 #[cfg(other)]
 mod other;

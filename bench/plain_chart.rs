@@ -2,11 +2,10 @@
 // spare a step decides alone. With fewer, a forward pass keeps the rows after every sixteenth step; then the blocks of sixteen steps are taken from
 // the last to the first: the rows of a block are made anew from those kept before it, and its words are read on the way back.
 #![forbid(unsafe_code)]
-use crate::library::STEPS;
+use crate::library::{STEPS, UNITS};
 use crate::plain::Columns;
 use std::iter::from_fn;
 
-const UNITS: usize = 64;
 const BLOCK: usize = 16;
 
 // A row for each unit b: the units of which something holds in place of b.

@@ -180,7 +180,7 @@ fn handed(sheet: &[u8]) -> Handed {
     let mut list = [ChamberStep::default(); STEPS];
     let said = library::steps(sheet, &mut list);
     assert_eq!(said.refusal, 0, "a made sheet is refused");
-    let first = |x: &ChamberStep| Step { lower: x.lower, upper: x.upper, least: x.least[0], greatest: x.greatest[0], tag: x.tag };
+    let first = |x: &ChamberStep| Step::new(x.lower, x.upper, x.least[0], x.greatest[0], x.tag);
     let steps = list[..said.steps as usize].iter().map(first).collect();
     Handed { units: said.units as u8, bound: said.bound as u16, start: said.start, steps }
 }
