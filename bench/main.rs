@@ -3,6 +3,7 @@
 // the entries.
 mod families;
 // The types and entries of include/warm.h, as the Rust crate has them.
+#[macro_use]
 #[path = "../bindings/rust/src/ffi.rs"]
 mod library;
 #[cfg(other)]

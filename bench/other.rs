@@ -1,16 +1,15 @@
-// Another archive beside the library, for times in turns. bench/run puts `other_` before the names of its entries. One of version 1 has another steps list,
-// and knows edition 1 alone; one that is older than the conversions has none.
-use crate::library::{Reply, Step, Written};
+// Another archive beside the library, for times in turns. bench/run puts `other_` before the names of its entries. One
+// of version 1 has another steps list, and knows edition 1 alone; one that is older than the conversions has none.
+#![cfg_attr(not(other_converts), allow(dead_code))]
+use crate::library::{ChamberStep, Reply, Step, StepsReply, Written};
 use crate::task::{call_library, Entry, Handed, Outputs, Task};
 
-#[cfg(other_steps_2)]
-use crate::library::{ChamberStep as Place, StepsReply};
-#[cfg(not(other_steps_2))]
-use Step as Place;
+// In this file an entry is the other archive's.
+entries!("other_");
 
 #[cfg(not(other_steps_2))]
 #[repr(C)]
-struct StepsReply {
+struct FirstStepsReply {
     refusal: u32,
     place: u32,
     units: u32,
@@ -20,17 +19,9 @@ struct StepsReply {
     start: u64,
 }
 
+#[cfg(not(other_steps_2))]
 extern "C" {
-    #[cfg_attr(other_steps_2, link_name = "other_warm_steps_2")]
-    fn other_warm_steps(sheet: *const u8, sheet_len: usize, steps: *mut Place, steps_len: usize) -> StepsReply;
-    fn other_warm_plan(sheet: *const u8, sheet_len: usize, plan: *mut u64, plan_len: usize) -> Reply;
-    fn other_warm_verdict(sheet: *const u8, sheet_len: usize, plan: *const u64, plan_len: usize) -> Reply;
-    fn other_warm_chart(sheet: *const u8, sheet_len: usize, on: *mut u64, on_len: usize, off: *mut u64, off_len: usize) -> Reply;
-    fn other_warm_write(units: u8, bound: u16, start: u64, steps: *const Step, steps_len: usize, sheet: *mut u8, sheet_len: usize) -> Written;
-    #[cfg(other_converts)]
-    fn other_warm_to_edition_1(sheet: *const u8, sheet_len: usize, out: *mut u8, out_len: usize) -> Written;
-    #[cfg(other_converts)]
-    fn other_warm_to_edition_2(sheet: *const u8, sheet_len: usize, out: *mut u8, out_len: usize) -> Written;
+    fn other_warm_steps(sheet: *const u8, sheet_len: usize, steps: *mut Step, steps_len: usize) -> FirstStepsReply;
 }
 
 // Whether the other archive can be asked for this: one of version 1 refuses sheets of edition 2.
@@ -47,25 +38,28 @@ pub fn call(task: &Task, out: &mut Outputs) {
     unsafe {
         match task.entry {
             Entry::Steps => {
+                #[cfg(other_steps_2)]
+                let said = warm_steps_2(sheet, len, out.list.as_mut_ptr(), out.list.len());
+                #[cfg(not(other_steps_2))]
                 let said = other_warm_steps(sheet, len, out.list.as_mut_ptr().cast(), out.list.len());
                 let reply = &mut out.steps_reply;
                 (reply.refusal, reply.place, reply.units, reply.steps) = (said.refusal, said.place, said.units, said.steps);
                 (reply.bound, reply.start) = (said.bound, said.start);
             }
-            Entry::Plan => out.reply = other_warm_plan(sheet, len, out.first.as_mut_ptr(), out.first.len()),
-            Entry::Verdict => out.reply = other_warm_verdict(sheet, len, task.plan.as_ptr(), task.plan.len()),
+            Entry::Plan => out.reply = warm_plan(sheet, len, out.first.as_mut_ptr(), out.first.len()),
+            Entry::Verdict => out.reply = warm_verdict(sheet, len, task.plan.as_ptr(), task.plan.len()),
             Entry::Chart => {
                 let (on, off) = (&mut out.first, &mut out.second);
-                out.reply = other_warm_chart(sheet, len, on.as_mut_ptr(), on.len(), off.as_mut_ptr(), off.len());
+                out.reply = warm_chart(sheet, len, on.as_mut_ptr(), on.len(), off.as_mut_ptr(), off.len());
             }
             Entry::Write => {
                 let Handed { units, bound, start, ref steps } = task.handed;
-                out.written = other_warm_write(units, bound, start, steps.as_ptr(), steps.len(), out.sheet.as_mut_ptr(), task.places);
+                out.written = warm_write(units, bound, start, steps.as_ptr(), steps.len(), out.sheet.as_mut_ptr(), task.places);
             }
             #[cfg(other_converts)]
-            Entry::ToEdition1 => out.written = other_warm_to_edition_1(sheet, len, out.sheet.as_mut_ptr(), task.places),
+            Entry::ToEdition1 => out.written = warm_to_edition_1(sheet, len, out.sheet.as_mut_ptr(), task.places),
             #[cfg(other_converts)]
-            Entry::ToEdition2 => out.written = other_warm_to_edition_2(sheet, len, out.sheet.as_mut_ptr(), task.places),
+            Entry::ToEdition2 => out.written = warm_to_edition_2(sheet, len, out.sheet.as_mut_ptr(), task.places),
             #[cfg(not(other_converts))]
             Entry::ToEdition1 | Entry::ToEdition2 => unreachable!("the other archive does not convert"),
         }

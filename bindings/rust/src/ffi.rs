@@ -107,30 +107,30 @@ pub struct Written {
     pub reserved: u32,
 }
 
-extern "C" {
-    pub fn warm_steps_2(sheet: *const u8, sheet_len: usize, steps: *mut ChamberStep, steps_len: usize) -> StepsReply;
-    pub fn warm_plan(sheet: *const u8, sheet_len: usize, plan: *mut u64, plan_len: usize) -> Reply;
-    pub fn warm_chart(
-        sheet: *const u8,
-        sheet_len: usize,
-        on: *mut u64,
-        on_len: usize,
-        off: *mut u64,
-        off_len: usize,
-    ) -> Reply;
-    pub fn warm_verdict(sheet: *const u8, sheet_len: usize, plan: *const u64, plan_len: usize) -> Reply;
-    pub fn warm_write(
-        units: u8,
-        bound: u16,
-        start: u64,
-        steps: *const Step,
-        steps_len: usize,
-        sheet: *mut u8,
-        sheet_len: usize,
-    ) -> Written;
-    pub fn warm_to_edition_1(sheet: *const u8, sheet_len: usize, out: *mut u8, out_len: usize) -> Written;
-    pub fn warm_to_edition_2(sheet: *const u8, sheet_len: usize, out: *mut u8, out_len: usize) -> Written;
+/// Declares the entries, with `$before` before their names in the archive: nothing here, and `other_` in the benchmark
+/// for a second archive.
+macro_rules! entries {
+    ($before:literal) => {
+        entries! { $before:
+            fn warm_steps_2(sheet: *const u8, sheet_len: usize, steps: *mut ChamberStep, steps_len: usize) -> StepsReply;
+            fn warm_plan(sheet: *const u8, sheet_len: usize, plan: *mut u64, plan_len: usize) -> Reply;
+            fn warm_chart(sheet: *const u8, sheet_len: usize, on: *mut u64, on_len: usize, off: *mut u64, off_len: usize)
+                -> Reply;
+            fn warm_verdict(sheet: *const u8, sheet_len: usize, plan: *const u64, plan_len: usize) -> Reply;
+            fn warm_write(units: u8, bound: u16, start: u64, steps: *const Step, steps_len: usize, sheet: *mut u8,
+                sheet_len: usize) -> Written;
+            fn warm_to_edition_1(sheet: *const u8, sheet_len: usize, out: *mut u8, out_len: usize) -> Written;
+            fn warm_to_edition_2(sheet: *const u8, sheet_len: usize, out: *mut u8, out_len: usize) -> Written;
+        }
+    };
+    ($before:literal: $(fn $name:ident $arguments:tt -> $reply:ty;)*) => {
+        extern "C" {
+            $(#[link_name = concat!($before, stringify!($name))] pub fn $name $arguments -> $reply;)*
+        }
+    };
 }
+
+entries!("");
 
 // The layouts that include/warm.h asserts for C.
 const _: () = {
