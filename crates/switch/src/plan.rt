@@ -67,9 +67,11 @@ fn plan_by_blocks(rows: &[u64], blocks: &[u64], start: u64, out: &mut [u64]) -> 
     let mut total = 0;
     let mut i = 0;
     while i < n {
+        // what the place holds is read first: read after the set is made, the scan for that set has a register less and takes longer
+        let held = out[i];
         let set = step_set(rows, blocks, i, before);
         total += size(difference(set, before));
-        out[i] = union(set, out[i]);
+        out[i] = union(set, held);
         before = set;
         i += 1;
     }

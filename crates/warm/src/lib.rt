@@ -54,7 +54,7 @@ pub extern "C" fn warm_chart(sheet: &[u8], on: &mut [u64], off: &mut [u64]) -> R
     ensures { λ r.
         ⌜ (r, (now (on .exit), now (off .exit))) ≡ warmChart (now (sheet .entry)) (now (on .entry)) (now (off .entry)) ⌝ }
 {
-    planning::chart::chart(sheet, on, off)
+    planning::charting::chart(sheet, on, off)
 }
 
 // Whether a plan meets a sheet, and the plan's total, met or not.

@@ -27,8 +27,14 @@ few c = omega (arith, c .size .ensures, size-below 64 (c .before .difference .re
 loop-holds : tie.Need-loop-holds Inv-loop μ-loop
 loop-holds c = (omega arith, plan-begun (stepsIn (now (c .before .before .before .args .rows))) (c .before .before .before .args .start) (now (c .before .before .before .args .out)))
 
+mul-held : tie.Need-mul-held Inv-loop μ-loop
+mul-held c = omega (arith, c .before .loop .inv .0, c .before .before .before .before .before .pre .0 .few)
+
+slice-read-held : tie.Need-slice-read-held Inv-loop μ-loop
+slice-read-held c = omega (arith, c .before .loop-test .taken, c .before .before .before .before .before .before .pre .0 .whole, c .before .before .before .before .before .before .pre .1 .1 .1, c .before .before .loop .inv .1 .same-long)
+
 step-set-requires : tie.Need-step-set-requires Inv-loop μ-loop
-step-set-requires c κs = let p = c .before .before .before .before .before .pre in (p .0, (p .1 .0, (p .1 .1 .0, omega (arith, c .loop-test .taken, p .0 .whole))))
+step-set-requires c κs = let p = c .before .before .before .before .before .before .pre in (p .0, (p .1 .0, (p .1 .1 .0, omega (arith, c .before .loop-test .taken, p .0 .whole))))
 
 difference-requires : tie.Need-difference-requires Inv-loop μ-loop
 difference-requires c κs = search needs
@@ -37,13 +43,7 @@ size-requires : tie.Need-size-requires Inv-loop μ-loop
 size-requires c κs = search needs
 
 add-total : tie.Need-add-total Inv-loop μ-loop
-add-total c = omega (arith, few c, c .before .before .before .before .loop .inv .1 .small, c .before .before .before .before .loop .inv .0, c .before .before .before .before .before .before .before .before .pre .0 .few)
-
-mul-union : tie.Need-mul-union Inv-loop μ-loop
-mul-union c = omega (arith, c .before .before .before .before .loop .inv .0, c .before .before .before .before .before .before .before .before .pre .0 .few)
-
-slice-read-union : tie.Need-slice-read-union Inv-loop μ-loop
-slice-read-union c = omega (arith, c .before .before .before .before .loop-test .taken, c .before .before .before .before .before .before .before .before .before .pre .0 .whole, c .before .before .before .before .before .before .before .before .before .pre .1 .1 .1, c .before .before .before .before .before .loop .inv .1 .same-long)
+add-total c = omega (arith, few c, c .before .before .before .before .before .loop .inv .1 .small, c .before .before .before .before .before .loop .inv .0, c .before .before .before .before .before .before .before .before .before .pre .0 .few)
 
 union-requires : tie.Need-union-requires Inv-loop μ-loop
 union-requires c κs = search needs
@@ -66,11 +66,11 @@ loop-again c =
     let l = c .before .before .before .before .before .before .loop in
     let in-range = c .before .before .before .before .before .loop-test .taken in
     let ss = stepsIn (now (k .args .rows)) in
-    let set = c .before .before .before .before .step-set .result in
-    let many : c .before .before .size .result ≡ size (difference set (l .before)) = c .before .before .size .ensures ∙ ap size (c .before .before .before .difference .ensures) in
+    let set = c .before .before .before .step-set .result in
+    let many : c .before .size .result ≡ size (difference set (l .before)) = c .before .size .ensures ∙ ap size (c .before .before .difference .ensures) in
     let word : c .union .result ≡ union set (getD (l .out) (l .i) 0) = c .union .ensures in (
       omega (arith, k .pre .0 .whole),
-      rw (many, word) (plan-on (l .inv .1) set (steps-at ss (l .i) (omega (arith, k .pre .0 .whole))) (c .before .before .before .before .step-set .ensures) (omega (arith, many, few (c .before .before))) (omega (arith, k .pre .0 .whole, k .pre .1 .1 .1))),
+      rw (many, word) (plan-on (l .inv .1) set (steps-at ss (l .i) (omega (arith, k .pre .0 .whole))) (c .before .before .before .step-set .ensures) (omega (arith, many, few (c .before))) (omega (arith, k .pre .0 .whole, k .pre .1 .1 .1))),
     )
 
 same-length : tie.Need-same-length Inv-loop μ-loop
@@ -86,12 +86,12 @@ plan-by-blocks-spec =
     Inv-loop
     μ-loop
     loop-holds
+    mul-held
+    slice-read-held
     step-set-requires
     difference-requires
     size-requires
     add-total
-    mul-union
-    slice-read-union
     union-requires
     mul-out
     slice-write-out

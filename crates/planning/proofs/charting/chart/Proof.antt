@@ -1,4 +1,4 @@
--- `planning::chart::chart` meets its contract.
+-- `planning::charting::chart` meets its contract.
 use mathlib.Core.Path.{sym, ap, _∙_}
 use Prim.Native.Nat.{min}
 use native.Mathlib.Omega.{arith}
@@ -9,8 +9,8 @@ use Rattle.sheet.specs.Told.{readTold}
 use Rattle.promises.specs.Chart.{onWords, offWords, charted, warmChart}
 use Rattle.promises.proofs.Plans.{plan-refused, plan-short, plan-open}
 use borrow.Author.Needs.{needs}
-use Rattle.planning.proofs.chart.chart.Statement.{statement}
-use Rattle.planning.proofs.chart.chart.Tie as tie
+use Rattle.planning.proofs.charting.chart.Statement.{statement}
+use Rattle.planning.proofs.charting.chart.Tie as tie
 
 read-requires : tie.Need-read-requires
 read-requires c κs = search needs

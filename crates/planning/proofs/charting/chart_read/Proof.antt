@@ -1,10 +1,10 @@
--- `planning::chart::chart_read` meets its contract: the arrays have room for the steps of any sheet that was read.
+-- `planning::charting::chart_read` meets its contract: the arrays have room for the steps of any sheet that was read.
 use native.Mathlib.Omega.{arith}
 use borrow.Author.Needs.{needs}
 use denote.Ref.{now}
 use Rattle.promises.proofs.Read.{was-opened}
-use Rattle.planning.proofs.chart.chart_read.Statement.{statement}
-use Rattle.planning.proofs.chart.chart_read.Tie as tie
+use Rattle.planning.proofs.charting.chart_read.Statement.{statement}
+use Rattle.planning.proofs.charting.chart_read.Tie as tie
 
 slice-aggregate-hand-out-chart : tie.Need-slice-aggregate-hand-out-chart
 slice-aggregate-hand-out-chart c = search needs

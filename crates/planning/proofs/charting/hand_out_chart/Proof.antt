@@ -1,4 +1,4 @@
--- `planning::chart::hand_out_chart` meets its contract: the total that is compared with the bound is the fewest, and what is drawn is the chart.
+-- `planning::charting::hand_out_chart` meets its contract: the total that is compared with the bound is the fewest, and what is drawn is the chart.
 use Prim.Native.Nat.{_-_}
 use Rattle.campaign.proofs.Decoded.{units-dealt, few-dealt, plan-taken}
 use Rattle.format.specs.Answer.{Given}
@@ -15,8 +15,8 @@ use mathlib.Core.Bool.{true, false}
 use mathlib.Core.Path.{ap, _∙_}
 use native.Mathlib.Omega.{arith}
 use borrow.Author.Needs.{needs}
-use Rattle.planning.proofs.chart.hand_out_chart.Statement.{statement}
-use Rattle.planning.proofs.chart.hand_out_chart.Tie as tie
+use Rattle.planning.proofs.charting.hand_out_chart.Statement.{statement}
+use Rattle.planning.proofs.charting.hand_out_chart.Tie as tie
 
 plan-read-requires : tie.Need-plan-read-requires
 plan-read-requires c κs = let k = c .before .before .before .before .before .before .before .before .before in (k .pre .0, (k .pre .1 .0, k .pre .1 .1 .1 .0))
