@@ -1,5 +1,6 @@
--- The loop that plans one chamber after the other, from the last to the first (`Made`): the plans of the chambers that it has come to are joined and their totals added,
--- and with those of the chambers before them they are the plan of all.
+-- The loop that plans one chamber after the other, from the last to the first (`Made`): the plans of the chambers that
+-- it has come to are joined and their totals added, and with those of the chambers before them they are the plan of
+-- all.
 use mathlib.Core.Path.{_≡_, refl, sym, ap, _∙_}
 use mathlib.Core.List.{List, [], _++_, map, Memᴰ·of-map}
 use Prim.Native.Nat.{ℕ, zero, suc, _+_, _-_, _*_, _≤_, _<_}
@@ -72,7 +73,8 @@ module _ (s : List ℕ) {x : Summary} (e : summaryRead s ≡ Given x) where
       let small : length (supportOn s) * unitsOf s ≤ length (supportOn s) * 64 = mul-le-mul-left (length (supportOn s)) (few-units s e) in
       omega (arith, sum-is, few, small, plan-long s e, was-opened s e .few)
 
--- After the chambers from number c on: what the output holds, with the plans of the chambers before them, is the plan of all, and so are the totals.
+-- After the chambers from number c on: what the output holds, with the plans of the chambers before them, is the plan
+-- of all, and so are the totals.
 pub record Made (s : List ℕ) (n : ℕ) (before now : List ℕ) (many c : ℕ) : Type 0 where
   pub joining : Joining n (plans s) (take c (plans s)) before now
   pub counted : many + sumOf (take c (chambersIn s)) (startOf s) (limitsOn s) ≡ sumOf (chambersIn s) (startOf s) (limitsOn s)

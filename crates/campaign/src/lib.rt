@@ -1,5 +1,6 @@
-// A campaign that was read from a sheet, chamber by chamber: the steps of a chamber are decoded, with the sizes of their feasible sets in the place of their two
-// numbers, and planned, and the plans of all chambers are joined; or a plan is checked on the steps. Nothing here is an open entry of the library.
+// A campaign that was read from a sheet, chamber by chamber: the steps of a chamber are decoded, with the sizes of
+// their feasible sets in the place of their two numbers, and planned, and the plans of all chambers are joined; or a
+// plan is checked on the steps. Nothing here is an open entry of the library.
 pub mod check;
 
 use format::Summary;
@@ -24,8 +25,8 @@ ghost use Rattle.campaign.specs.Benches.{chamberCount, chamberOn, Decode
 // How many chambers a sheet has.
 pub const CHAMBERS: usize = 4;
 
-// Joins the plan of chamber number c, which has these units, to the first places of `out`, and gives its total. Its words stay in the first places of `rows`, unless the
-// chamber is empty.
+// Joins the plan of chamber number c, which has these units, to the first places of `out`, and gives its total. Its
+// words stay in the first places of `rows`, unless the chamber is empty.
 fn join_chamber(
     sheet: &[u8],
     x: Summary,
@@ -53,8 +54,8 @@ fn join_chamber(
     plan(&rows[0..end], intersection(header.start, units), out)
 }
 
-// The plan of a sheet that was read, into the first places of `out`, and its total. It works in `rows`, whose first places then have the words of the first chamber,
-// unless that is empty.
+// The plan of a sheet that was read, into the first places of `out`, and its total. It works in `rows`, whose first
+// places then have the words of the first chamber, unless that is empty.
 pub fn plan_read(sheet: &[u8], x: Summary, rows: &mut [u64], out: &mut [u64]) -> u32
     requires { ⌜ summaryRead (now sheet) ≡ Given x ⌝ }
     requires { ⌜ rowSize * x .steps ≤ length (now rows) ⌝ }

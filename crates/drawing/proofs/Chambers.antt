@@ -1,5 +1,5 @@
--- The chart of a sheet, drawn one chamber after the other (`Drawn`): the charts of the chambers that the loop has come to are joined, and with those of the chambers
--- still to come they are the chart of all.
+-- The chart of a sheet, drawn one chamber after the other (`Drawn`): the charts of the chambers that the loop has come
+-- to are joined, and with those of the chambers still to come they are the chart of all.
 use mathlib.Core.Path.{_≡_, refl, sym, ap, _∙_, subst}
 use mathlib.Core.Bool.{Bool, true, false}
 use mathlib.Core.List.{List, [], _∷_, map, Memᴰ·of-map}

@@ -1,5 +1,5 @@
-// The chart of a sheet that was read, drawn chamber by chamber from its plan: what the bound leaves to spare in all, it leaves in each. Nothing here is an open entry of
-// the library.
+// The chart of a sheet that was read, drawn chamber by chamber from its plan: what the bound leaves to spare in all,
+// it leaves in each. Nothing here is an open entry of the library.
 use campaign::CHAMBERS;
 use chart::draw_chart;
 use format::Summary;
@@ -23,8 +23,9 @@ ghost use Rattle.format.specs.Stages.{summaryRead};
 ghost use Rattle.promises.specs.Chart.{onWords, offWords};
 ghost use Rattle.promises.specs.Plan.{supportOn};
 
-// Joins the chart of chamber number c, which has these units, to the first places of the outputs, from the plan of all chambers and the words of the chamber, which are in the
-// first places of `rows`. It works in `part`. Of an empty chamber there is nothing to join.
+// Joins the chart of chamber number c, which has these units, to the first places of the outputs, from the plan of all
+// chambers and the words of the chamber, which are in the first places of `rows`. It works in `part`. Of an empty
+// chamber there is nothing to join.
 fn draw_decoded(
     sheet: &[u8],
     x: Summary,
@@ -100,8 +101,8 @@ fn draw_chamber(
     draw_decoded(sheet, x, c, units, slack, plan, rows, part, on, off)
 }
 
-// The chart of a sheet that was read, into the first places of the outputs, from its plan: that of each chamber, put together. The words of the first chamber are decoded
-// already.
+// The chart of a sheet that was read, into the first places of the outputs, from its plan: that of each chamber, put
+// together. The words of the first chamber are decoded already.
 pub fn draw_all(
     sheet: &[u8],
     x: Summary,

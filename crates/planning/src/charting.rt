@@ -1,4 +1,5 @@
-// The chart: refusals 1 to 9, 13 and 14, or the units that can be on and those that can be off in each step, over all plans that meet the sheet.
+// The chart: refusals 1 to 9, 13 and 14, or the units that can be on and those that can be off in each step, over all
+// plans that meet the sheet.
 use campaign::plan_read;
 use drawing::draw_all;
 use format::Summary;
@@ -17,7 +18,8 @@ ghost use Rattle.format.specs.Stages.{summaryRead};
 ghost use Rattle.promises.specs.Chart.{onWords, offWords, charted, warmChart};
 ghost use Rattle.promises.specs.Plan.{supportOn, boundCauses};
 
-// Hands out the chart of a sheet that was read, where the outputs have a place for each step: refusal 9, or the chart. It works in `rows`, `part` and `plan`.
+// Hands out the chart of a sheet that was read, where the outputs have a place for each step: refusal 9, or the chart.
+// It works in `rows`, `part` and `plan`.
 fn hand_out_chart(
     sheet: &[u8],
     x: Summary,
@@ -89,7 +91,8 @@ fn shorter(a: usize, b: usize) -> usize
     if a < b { a } else { b }
 }
 
-// The chart of a sheet: into the first places of `on` the units that can be on in each step, into those of `off` the units that can be off.
+// The chart of a sheet: into the first places of `on` the units that can be on in each step, into those of `off` the
+// units that can be off.
 pub fn chart(sheet: &[u8], on: &mut [u64], off: &mut [u64]) -> Reply
     ensures { λ r.
         ⌜ (r, (now (on .exit), now (off .exit))) ≡ warmChart (now (sheet .entry)) (now (on .entry)) (now (off .entry)) ⌝ }

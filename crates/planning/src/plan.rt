@@ -15,7 +15,8 @@ ghost use Rattle.format.specs.Format.{startOf};
 ghost use Rattle.format.specs.Stages.{summaryRead};
 ghost use Rattle.promises.specs.Plan.{supportOn, boundCauses, planned, warmPlan};
 
-// Hands out the plan of a sheet that was read, where the output has a place for each step: refusal 9, or the plan. It works in `rows` and `sets`.
+// Hands out the plan of a sheet that was read, where the output has a place for each step: refusal 9, or the plan. It
+// works in `rows` and `sets`.
 fn hand_out(sheet: &[u8], x: Summary, rows: &mut [u64], sets: &mut [u64], plan: &mut [u64]) -> Reply
     requires { ⌜ summaryRead (now sheet) ≡ Given x ⌝ }
     requires { ⌜ rowSize * x .steps ≤ length (now rows) ⌝ }

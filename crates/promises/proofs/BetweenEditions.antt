@@ -30,11 +30,13 @@ use Rattle.promises.proofs.Read.{passed}
 pub copied-unaltered : (first : Bool) (s : List ℕ) → isFirst s ≡ first → inEdition first s ≡ s
 copied-unaltered first s same = copied first s same
 
--- the length of a converted sheet, which is the place of refusal 8, is that of a sheet in that edition with as many records
+-- the length of a converted sheet, which is the place of refusal 8, is that of a sheet in that edition with as many
+-- records
 pub needed-length : (first : Bool) (s : List ℕ) → Passes s → length (inEdition first s) ≡ sheetLength first (recordsOf s)
 needed-length first s ok = converted-length first s (passed s ok)
 
--- Where a sheet was converted, with a reply whose refusal is 0, the first bytes of the output, as many as the reply says, are the sheet in that edition.
+-- Where a sheet was converted, with a reply whose refusal is 0, the first bytes of the output, as many as the reply
+-- says, are the sheet in that edition.
 the-conversion : (first : Bool) (s out : List ℕ) → warmConvert first s out .0 .refusal ≡ 0
     → (take (warmConvert first s out .0 .length) (warmConvert first s out .1) ≡ inEdition first s) × (Passes s × (first ≡ true → unitsOf s ≤ sizes s .first))
 the-conversion first s out handed =
@@ -51,8 +53,8 @@ the-conversion first s out handed =
     some n (inl (inr h)) e = omega arith
     some n (inr (down, h)) e = omega arith
 
--- It passes the checks, and has the same units, bound, start set, chambers, records and steps, but for how numbers are written; so it gets the same plan, chart,
--- verdict and listings.
+-- It passes the checks, and has the same units, bound, start set, chambers, records and steps, but for how numbers are
+-- written; so it gets the same plan, chart, verdict and listings.
 pub converted-says-the-same : (first : Bool) (s out : List ℕ) → warmConvert first s out .0 .refusal ≡ 0
     → Converted first s (take (warmConvert first s out .0 .length) (warmConvert first s out .1))
 converted-says-the-same first s out handed =

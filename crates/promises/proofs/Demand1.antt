@@ -143,11 +143,13 @@ demand-1-convert first s out =
     exact (convertRefusals first s (length out)) (ConvertNumber first)
     (convert-numbers (ConvertNumber first) first (λ n h. inl (inl h)) (inl (inr refl)) (λ down. inr (down, refl)) s (length out)) (inEdition first s) (wrote out)
 
--- What row 7 of the table tests, whatever the numbers of units of the chambers: it holds of a step exactly if no set is feasible there.
+-- What row 7 of the table tests, whatever the numbers of units of the chambers: it holds of a step exactly if no set
+-- is feasible there.
 pub a-feasible-set : (sizes : List ℕ) (x : ChamberStep) → someFits (chambersOf sizes) (limitsOf x) ≡ true ↔ ((set : ℕ) × Fits (chambersOf sizes) (limitsOf x) set)
 a-feasible-set sizes x = some-fits (chambersOf sizes) (limitsOf x) (dealt-apart 0 0 sizes)
 
--- the walk along the chain never runs out of links to look at: looking at more gives the same refusal or the same chain
+-- the walk along the chain never runs out of links to look at: looking at more gives the same refusal or the same
+-- chain
 pub the-walk-ends : (s : List ℕ) (r more : ℕ)
     → unless (linkCauses r [] 0 (following (suc r + more) s 0)) (Given (following (suc r + more) s 0)) ≡ unless (linkCauses r [] 0 (chainOf s r)) (Given (chainOf s r))
 the-walk-ends s r more = chain-is-long-enough s r more

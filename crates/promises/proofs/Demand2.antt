@@ -23,14 +23,16 @@ use Rattle.promises.proofs.Plans.{plan-fewest, plan-length-on, plan-giv
 use Rattle.promises.proofs.Read.{passed}
 use Rattle.promises.proofs.Verdicts.{verdict-given, accepts-exactly, turned-down}
 
--- With one set for each step it is accepted if it meets the sheet, and turned down if not. Its total is given either way.
+-- With one set for each step it is accepted if it meets the sheet, and turned down if not. Its total is given either
+-- way.
 pub demand-2-verdict : (s plan : List ℕ) → Passes s → length plan ≡ length (stepsOf s)
     → (warmVerdict s plan ≡ fullReply (total (startOf s) plan) (accepts s plan)) × ((Meets s plan → accepts s plan ≡ 1) × ((Meets s plan → ⊥) → accepts s plan ≡ 0))
 unfolding warmVerdict judged campaignOf
 demand-2-verdict s plan ok long =
     (sym (ap judged (verdict-given s plan (passed s ok) long)), (accepts-exactly s plan .1, turned-down s plan))
 
--- A plan that was handed out, with a reply whose refusal is 0, is the one that FindSupport gives, and the verdict accepts it.
+-- A plan that was handed out, with a reply whose refusal is 0, is the one that FindSupport gives, and the verdict
+-- accepts it.
 pub demand-2-plan : (s out : List ℕ) → warmPlan s out .0 .refusal ≡ 0 → HandedOut s (warmPlan s out .0) (warmPlan s out .1)
 unfolding warmVerdict judged campaignOf
 demand-2-plan s out handed =

@@ -9,6 +9,7 @@ use Rattle.format.specs.Format.{isFirst}
 use Rattle.promises.specs.Statements.{Passes, OneChamber}
 use Rattle.promises.proofs.Single.{first-is-single, single}
 
--- What is promised of a sheet with chambers is promised of a sheet of edition 1 as of one chamber: what is said of its plans is what is said without chambers.
+-- What is promised of a sheet with chambers is promised of a sheet of edition 1 as of one chamber: what is said of its
+-- plans is what is said without chambers.
 pub edition-1-is-one-chamber : (s : List ℕ) → Passes s → isFirst s ≡ true → OneChamber s
 edition-1-is-one-chamber s ok first = single s ok (first-is-single s first)

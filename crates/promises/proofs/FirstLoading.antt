@@ -18,9 +18,10 @@ use Rattle.promises.specs.Statements.{Passes, FewestLater}
 use Rattle.promises.proofs.Demand3.{demand-3}
 use Rattle.promises.proofs.Restarts.{restarted, total-restarted}
 
--- Take any sheet s that passes the checks, and t, which is s with its start set replaced by all d units: it has the same length and the same bytes but for those
--- of the start set (and it may differ in tags and unused records, which play no part). With outputs that have a place for every step, plan and chart of t report
--- the least, over all feasible plans of s, of the switches counted from the second step on, as their total or as the place of refusal 9.
+-- Take any sheet s that passes the checks, and t, which is s with its start set replaced by all d units: it has the
+-- same length and the same bytes but for those of the start set (and it may differ in tags and unused records, which
+-- play no part). With outputs that have a place for every step, plan and chart of t report the least, over all
+-- feasible plans of s, of the switches counted from the second step on, as their total or as the place of refusal 9.
 pub first-loading-left-out : (s t plan on off : List ℕ) → Passes s → AgreeButStart s t → startOf t ≡ 2 ^ unitsOf s - 1
     → length (stepsOf s) ≤ length plan → length (stepsOf s) ≤ length on → length (stepsOf s) ≤ length off
     → FewestLater s t plan on off (total (startOf t) (supportOn t))

@@ -18,8 +18,9 @@ use Rattle.promises.specs.Common.{limitsOn}
 use Rattle.promises.specs.Statements.{Passes}
 use Rattle.promises.proofs.Read.{bench, passed}
 
--- The sizes of a step, which are listed, where its upper set has no unit from d up. A number is the size of some feasible set exactly if it lies from the least to the
--- greatest; if the step has no sizes (`NoSet`), no set is feasible.
+-- The sizes of a step, which are listed, where its upper set has no unit from d up. A number is the size of some
+-- feasible set exactly if it lies from the least to the greatest; if the step has no sizes (`NoSet`), no set is
+-- feasible.
 pub the-sizes : (d : ℕ) (sizes : List ℕ) → sum sizes ≡ d → (x : ChamberStep) → x .upper < 2 ^ d
     → (k : ℕ) → ((set : ℕ) × (Fits (chambersOf sizes) (limitsOf x) set × (size set ≡ k))) ↔ HasSize (sizesIn (chambersOf sizes) (limitsOf x)) k
 the-sizes d sizes all x own =

@@ -20,7 +20,8 @@ use Rattle.promises.proofs.Charts.{words-length, words-cells, no-others
 use Rattle.promises.proofs.Plans.{fewest-by, plan-fewest, over-bound, in-bound, plan-open}
 use Rattle.promises.proofs.Read.{passed}
 
--- Whatever strict order breaks the ties of each step, FindSupport's plan is feasible, and its total is the fewest, the number that plan and chart report.
+-- Whatever strict order breaks the ties of each step, FindSupport's plan is feasible, and its total is the fewest, the
+-- number that plan and chart report.
 pub demand-3-any-ties : (ties : ℕ → ℕ → ℕ → Bool) → ((i : ℕ) → Ordered (ties i)) → (s plan on off : List ℕ) → Passes s
     → length (stepsOf s) ≤ length plan → length (stepsOf s) ≤ length on → length (stepsOf s) ≤ length off
     → FeasibleOn s (supportBy ties s) × FewestAndExact s plan on off (total (startOf s) (supportBy ties s))

@@ -27,7 +27,8 @@ use Rattle.promises.proofs.Writes.{Limited, limited}
 pub written-length : (d bound start : ℕ) (xs : List Step) → length (sheetOf d bound start xs) ≡ sheetLength true (length xs)
 written-length d bound start xs = sheet-length d bound start xs
 
--- Where it was written, with a reply whose refusal is 0, the first bytes of the output, as many as the reply says, are the sheet, within its limits.
+-- Where it was written, with a reply whose refusal is 0, the first bytes of the output, as many as the reply says, are
+-- the sheet, within its limits.
 the-sheet : (d bound start : ℕ) (xs : List Step) (out : List ℕ) → warmWrite d bound start xs out .0 .refusal ≡ 0
     → (take (warmWrite d bound start xs out .0 .length) (warmWrite d bound start xs out .1) ≡ sheetOf d bound start xs) × Limited d start (length xs) (length out)
 the-sheet d bound start xs out handed =
@@ -48,8 +49,9 @@ written-in-order d bound start xs out handed =
       ap recordsOn bytes ∙ chain-written d bound start xs (l .few),
     )
 
--- Where each number is as wide as its field, which the types of `warm_write` see to, the reader says of it the refusal of the first faulty step, 6 or 7, or else the
--- same units, bound, start set and steps, tags included: all units are in one chamber, and each step has its two numbers there, and zeros for the other chambers.
+-- Where each number is as wide as its field, which the types of `warm_write` see to, the reader says of it the refusal
+-- of the first faulty step, 6 or 7, or else the same units, bound, start set and steps, tags included: all units are
+-- in one chamber, and each step has its two numbers there, and zeros for the other chambers.
 pub written-reads-back : (d bound start : ℕ) (xs : List Step) (out : List ℕ) → bound < 2 ^ 16 → AllWide xs → warmWrite d bound start xs out .0 .refusal ≡ 0
     → campaignRead (take (warmWrite d bound start xs out .0 .length) (warmWrite d bound start xs out .1))
     ≡ unless (stepsCauses (chambersOf (sizesList (oneSize d))) d 1 (map widened xs))

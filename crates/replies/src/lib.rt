@@ -1,4 +1,5 @@
-// Replies that several entries make: a refusal of each kind, and the reply for bytes that were written. Nothing here is an open entry of the library.
+// Replies that several entries make: a refusal of each kind, and the reply for bytes that were written. Nothing here
+// is an open entry of the library.
 use promises::Reply;
 use promises::StepsReply;
 use promises::Written;

@@ -24,8 +24,8 @@ rest-at ss i before x {s} e is =
     ap (supportFrom (λ k. tieOrder) (length ss) (i + 1) before) e
     ∙ ap (λ (y : ℕ). y ∷ rest ss (i + 1) y) (ap (λ t. supportSet (ranksBefore (length ss) (i + 1) t) s before) (sym e) ∙ sym is)
 
--- After i steps: with the sets still to come joined to what the other places hold, the output holds the plan joined to what it held, and the number, with the switches still
--- to come, is the total.
+-- After i steps: with the sets still to come joined to what the other places hold, the output holds the plan joined to
+-- what it held, and the number, with the switches still to come, is the total.
 pub record Planned (ss : List Limits) (start : ℕ) (entry now : List ℕ) (i before sum : ℕ) : Type 0 where
   pub same-long : length now ≡ length entry
   pub kept : (j : ℕ) → i ≤ j → getD now j 0 ≡ getD entry j 0

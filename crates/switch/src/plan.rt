@@ -26,7 +26,8 @@ fn excess(a: u64, b: u64) -> u64
     if b < a { a - b } else { 0 }
 }
 
-// What is on in the step at i, where `before` was on. It begins as what was on and may be, with what must be; then units leave it, or join it, never both.
+// What is on in the step at i, where `before` was on. It begins as what was on and may be, with what must be; then
+// units leave it, or join it, never both.
 fn step_set(rows: &[u64], blocks: &[u64], i: usize, before: u64) -> u64
     requires { ⌜ Rows (now rows) ⌝ }
     requires { ⌜ Blocks (stepsIn (now rows)) (now blocks) ⌝ }
@@ -53,7 +54,8 @@ fn step_set(rows: &[u64], blocks: &[u64], i: usize, before: u64) -> u64
     choose(leave, difference(begun, picked), union(begun, picked))
 }
 
-// The plan by the words of the blocks: joins it to what the first places of `out` hold, and gives how many switches it makes from the start set.
+// The plan by the words of the blocks: joins it to what the first places of `out` hold, and gives how many switches it
+// makes from the start set.
 fn plan_by_blocks(rows: &[u64], blocks: &[u64], start: u64, out: &mut [u64]) -> u32
     requires { ⌜ Rows (now rows) ⌝ }
     requires { ⌜ Blocks (stepsIn (now rows)) (now blocks) ⌝ }
@@ -67,7 +69,8 @@ fn plan_by_blocks(rows: &[u64], blocks: &[u64], start: u64, out: &mut [u64]) -> 
     let mut total = 0;
     let mut i = 0;
     while i < n {
-        // what the place holds is read first: read after the set is made, the scan for that set has a register less and takes longer
+        // what the place holds is read first: read after the set is made, the scan for that set has a register less
+        // and takes longer
         let held = out[i];
         let set = step_set(rows, blocks, i, before);
         total += size(difference(set, before));

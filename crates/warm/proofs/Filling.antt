@@ -1,4 +1,5 @@
--- The loop of `warm_steps_2` in lists: what its turns make of the list of steps, and where it stands between two turns.
+-- The loop of `warm_steps_2` in lists: what its turns make of the list of steps, and where it stands between two
+-- turns.
 use mathlib.Core.Path.{_≡_, refl, sym, ap, subst, _∙_}
 use Prim.Native.Nat.{ℕ, zero, suc, _+_, _-_, _≤_, _<_}
 use native.Mathlib.Nat.{not-suc-le-zero, le-of-suc-le-suc}
@@ -11,7 +12,8 @@ use Rattle.format.specs.Chain.{Within, Inside, stepsFrom}
 use Rattle.format.specs.Format.{nextOf, stepOf}
 
 module _ (s : List ℕ) where
-  -- what t turns make of the list, where the first of them reads the record after record j and writes its step at place i
+  -- what t turns make of the list, where the first of them reads the record after record j and writes its step at
+  -- place i
   abbrev pub filling : ℕ → ℕ → ℕ → List ChamberStep → List ChamberStep
   filling zero j i xs = xs
   filling (suc t) j i xs = filling t (nextOf s j) (i + 1) (set xs i (stepOf s (nextOf s j)))
@@ -28,7 +30,8 @@ module _ (s : List ℕ) where
       ∙ append-snoc done x (stepsFrom s (nextOf s j) t ++ drop t rest)
 
   module _ (n : ℕ) (ys : List ChamberStep) where
-    -- where the loop stands, with `left` turns to go: record j is the last one read, and the list is xs. What the turns to go make of xs is what the definition says
+    -- where the loop stands, with `left` turns to go: record j is the last one read, and the list is xs. What the
+    -- turns to go make of xs is what the definition says
     pub record Turn : Type 0 where
       pub left : ℕ
       pub i : ℕ

@@ -1,4 +1,5 @@
--- The loop of `warm_write` in lists: what it begins with, what its turns make of the output, and where it stands between two turns.
+-- The loop of `warm_write` in lists: what it begins with, what its turns make of the output, and where it stands
+-- between two turns.
 use mathlib.Core.Path.{_≡_, refl, sym, ap, ap₂, _∙_}
 use mathlib.Core.Bool.{true}
 use mathlib.Core.List.{List, _∷_, _++_}
@@ -110,7 +111,8 @@ abbrev pub noStep : Step
 noStep = record { lower = 0; upper = 0; least = 0; greatest = 0; tag = 0 }
 
 module _ (xs : List Step) (m : ℕ) (few : m ≤ length xs) (zs : List ℕ) where
-  -- where the loop stands, with `left` turns to go: with the records that are left put into ws, the output is what the loop makes of zs
+  -- where the loop stands, with `left` turns to go: with the records that are left put into ws, the output is what the
+  -- loop makes of zs
   pub record Turn : Type 0 where
     pub left : ℕ
     pub i : ℕ

@@ -1,6 +1,7 @@
-// The entries that buyers call, over lent bytes and lent buffers, in the order of include/warm.h, and nothing else. None has a `requires`, and each has one `ensures` that
-// equates its reply and all lent memory with a definition of `promises`, for any input. docs/FORMAT.md has the sheet and the refusal table. Each is one call of a crate below; the
-// two that take a list of structs go through it here, one struct a turn.
+// The entries that buyers call, over lent bytes and lent buffers, in the order of include/warm.h, and nothing else.
+// None has a `requires`, and each has one `ensures` that equates its reply and all lent memory with a definition of
+// `promises`, for any input. docs/FORMAT.md has the sheet and the refusal table. Each is one call of a crate below;
+// the two that take a list of structs go through it here, one struct a turn.
 use editions::convert;
 use format::ChamberStep;
 use format::Step;
@@ -22,8 +23,8 @@ ghost use Rattle.promises.specs.Steps.{warmSteps};
 ghost use Rattle.promises.specs.Verdict.{warmVerdict};
 ghost use Rattle.promises.specs.Write.{warmWrite};
 
-// The steps of a sheet, one struct a step, into the first places of the list. The number in its name goes with the struct: a caller that was compiled for
-// another one finds no such entry.
+// The steps of a sheet, one struct a step, into the first places of the list. The number in its name goes with the
+// struct: a caller that was compiled for another one finds no such entry.
 #[no_mangle]
 pub extern "C" fn warm_steps_2(sheet: &[u8], steps: &mut [ChamberStep]) -> StepsReply
     ensures { λ r. ⌜ (r, now (steps .exit)) ≡ warmSteps (now (sheet .entry)) (now (steps .entry)) ⌝ }
@@ -48,7 +49,8 @@ pub extern "C" fn warm_plan(sheet: &[u8], plan: &mut [u64]) -> Reply
     planning::plan::plan(sheet, plan)
 }
 
-// The chart of a sheet: into the first places of `on` the units that can be on in each step, into those of `off` the units that can be off.
+// The chart of a sheet: into the first places of `on` the units that can be on in each step, into those of `off` the
+// units that can be off.
 #[no_mangle]
 pub extern "C" fn warm_chart(sheet: &[u8], on: &mut [u64], off: &mut [u64]) -> Reply
     ensures { λ r.
@@ -65,7 +67,8 @@ pub extern "C" fn warm_verdict(sheet: &[u8], plan: &[u64]) -> Reply
     judging::verdict::verdict(sheet, plan)
 }
 
-// The sheet of some steps, in their order, into the first places of the output. A refusal has length 0, so that no record is put.
+// The sheet of some steps, in their order, into the first places of the output. A refusal has length 0, so that no
+// record is put.
 #[no_mangle]
 pub extern "C" fn warm_write(
     units: u8,

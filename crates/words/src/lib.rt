@@ -1,4 +1,5 @@
-// What is done with the words of outputs, one word a step: they are cleared, copied, and cut down to some units. Nothing here is an open entry of the library.
+// What is done with the words of outputs, one word a step: they are cleared, copied, and cut down to some units.
+// Nothing here is an open entry of the library.
 use units::intersection;
 ghost use mathlib.Core.Path.{_≡_};
 ghost use Prim.Native.Nat.{_≤_};

@@ -1,5 +1,6 @@
-// Fields copied as they are, by their width. Each function copies the bytes from a place of the one slice to a place of the other, leaves all others, and gives the place
-// after them, which its second `ensures` says as a number. The bytes are read and put as one number.
+// Fields copied as they are, by their width. Each function copies the bytes from a place of the one slice to a place
+// of the other, leaves all others, and gives the place after them, which its second `ensures` says as a number. The
+// bytes are read and put as one number.
 use super::put::put_u16;
 use super::put::put_u32;
 use super::put::put_u64;

@@ -1,4 +1,5 @@
--- `drawing::draw_all` meets its contract. The loop's invariant is `Drawn` for both outputs: what was joined so far, with the chambers still to come, is all.
+-- `drawing::draw_all` meets its contract. The loop's invariant is `Drawn` for both outputs: what was joined so far,
+-- with the chambers still to come, is all.
 use Prim.Native.Nat.{ℕ, _-_, _≤_}
 use Rattle.campaign.specs.Benches.{chamberCount}
 use Rattle.promises.proofs.Read.{bound-is}

@@ -1,4 +1,5 @@
--- `drawing::draw_decoded` meets its contract: of an empty chamber there is nothing to draw, and the words that are read from the tables of another are its chart.
+-- `drawing::draw_decoded` meets its contract: of an empty chamber there is nothing to draw, and the words that are
+-- read from the tables of another are its chart.
 use Prim.Native.Nat.{_-_}
 use Rattle.campaign.specs.Benches.{chamberOn}
 use Rattle.campaign.proofs.Decoded.{many-parts, part-long, rows-are, rows-sound}

@@ -1,8 +1,11 @@
--- `warm::warm_steps_2` meets its contract: a walk of its MIR, by hand. It calls `steps_reply` of `judging` on the sheet (`Walk.antt`), and a loop fills the list. The list's
--- borrow is opened once, before the loop, and closed once, after it. The invariant is where the loop stands (`Filling.antt`'s `Turn`): `record` and `i` are its numbers, its list
--- lies in memory, and what the turns that are left make of that list is what the definition says. A turn calls `next_of` and `step_of` on the sheet, takes element i out of
--- the list, stores the step there, and puts it back. What the turns ask holds by the law `fill-asked` of `promises`. Of the callees the proof knows their contracts alone.
--- The walk is in three parts, `walk` up to the reply, `goes-on` up to the loop, and `turns`: in one, it is too much for the kernel.
+-- `warm::warm_steps_2` meets its contract: a walk of its MIR, by hand. It calls `steps_reply` of `judging` on the
+-- sheet (`Walk.antt`), and a loop fills the list. The list's borrow is opened once, before the loop, and closed once,
+-- after it. The invariant is where the loop stands (`Filling.antt`'s `Turn`): `record` and `i` are its numbers, its
+-- list lies in memory, and what the turns that are left make of that list is what the definition says. A turn calls
+-- `next_of` and `step_of` on the sheet, takes element i out of the list, stores the step there, and puts it back. What
+-- the turns ask holds by the law `fill-asked` of `promises`. Of the callees the proof knows their contracts alone. The
+-- walk is in three parts, `walk` up to the reply, `goes-on` up to the loop, and `turns`: in one, it is too much for
+-- the kernel.
 use mathlib.Core.Path.{_≡_, refl, sym, ap, subst, _∙_}
 use mathlib.Core.WellFounded.{WellFounded, InvImage·wf}
 use Prim.Native.Nat.{ℕ, _+_, _*_, _<_, _≤_, _^_}
@@ -199,7 +202,8 @@ module _ {M : Type 1} (𝓤 : URA M) (H : Heap 𝓤) (A : Atoms 𝓤) (W : Given
     abbrev En : Env 𝓤 H
     En = (R′.mir, l₀) ∷ (sheetTy, l₁) ∷ (stepsTy, l₂) ∷ (R′.mir, l₃) ∷ (word, l₄) ∷ (word, l₅) ∷ (word, l₆) ∷ (word, l₇) ∷ (tyBool, l₈) ∷ (T′.mir, l₉) ∷ (word, l₁₀) ∷ (tyPtr, l₁₁) ∷ []
 
-    -- the locals from the last to the first: those that are not in use, the three that the loop counts with, as they are given, the reply, and the parameters
+    -- the locals from the last to the first: those that are not in use, the three that the loop counts with, as they
+    -- are given, the reply, and the parameters
     abbrev Locals : Fml → Fml → Fml → List (Item 𝓤)
     Locals counter at-record many =
         ‵ (froom tyPtr l₁₁ 0) ∷ ‵ (fdies tyPtr l₁₁) ∷ ‵ (froom word l₁₀ 0) ∷ ‵ (fdies word l₁₀) ∷ ‵ (froom T′.mir l₉ 0) ∷ ‵ (fdies T′.mir l₉) ∷ ‵ (froom tyBool l₈ 0) ∷ ‵ (fdies tyBool l₈) ∷ ‵ (froom word l₇ 0) ∷ ‵ (fdies word l₇)

@@ -1,6 +1,9 @@
--- `warm::warm_write` meets its contract: a walk of its MIR, by hand. `begin_sheet` decides and puts the header, and a loop puts the records.
--- The output is lent again for each call, and comes back at the list that the call left (`Lending.antt`). A turn looks into the list of steps, copies element i, and hands it to `put_record`.
--- The invariant is where the loop stands (`Recording.antt`'s `Turn`). Of the callees the proof knows their contracts alone. The walk is in three parts, `walk` up to the header, `goes-on` up to the loop, and `turns`: in one, it is too much for the kernel.
+-- `warm::warm_write` meets its contract: a walk of its MIR, by hand. `begin_sheet` decides and puts the header, and a
+-- loop puts the records. The output is lent again for each call, and comes back at the list that the call left
+-- (`Lending.antt`). A turn looks into the list of steps, copies element i, and hands it to `put_record`. The invariant
+-- is where the loop stands (`Recording.antt`'s `Turn`). Of the callees the proof knows their contracts alone. The walk
+-- is in three parts, `walk` up to the header, `goes-on` up to the loop, and `turns`: in one, it is too much for the
+-- kernel.
 use mathlib.Core.Path.{_≡_, refl, sym, ap, subst, _∙_}
 use mathlib.Core.WellFounded.{WellFounded, InvImage·wf}
 use Prim.Native.Nat.{ℕ, _+_, _-_, _*_, _/_, _<_, _≤_, _^_}
@@ -191,7 +194,8 @@ module _ {M : Type 1} (𝓤 : URA M) (H : Heap 𝓤) (A : Atoms 𝓤) (W : Given
     abbrev En : Env 𝓤 H
     En = (R′.mir, l₀) ∷ (tyInt w8, l₁) ∷ (tyInt w16, l₂) ∷ (word, l₃) ∷ (stepsTy, l₄) ∷ (sheetTy, l₅) ∷ (R′.mir, l₆) ∷ (word, l₇) ∷ (word, l₈) ∷ (word, l₉) ∷ (refTy, l₁₀) ∷ (lentTy, l₁₁) ∷ (tyBool, l₁₂) ∷ (tyUnit, l₁₃) ∷ (word, l₁₄) ∷ (tyPtr, l₁₅) ∷ (T′.mir, l₁₆) ∷ (word, l₁₇) ∷ (refTy, l₁₈) ∷ (lentTy, l₁₉) ∷ []
 
-    -- the locals from the last to the first: those that are not in use, the two that the loop counts with, as they are given, the reply, and the parameters
+    -- the locals from the last to the first: those that are not in use, the two that the loop counts with, as they are
+    -- given, the reply, and the parameters
     abbrev Locals : Fml → Fml → Written → List (Item 𝓤)
     Locals counter many r =
         ‵ (froom lentTy l₁₉ 0) ∷ ‵ (fdies lentTy l₁₉) ∷ ‵ (froom refTy l₁₈ 0) ∷ ‵ (fdies refTy l₁₈) ∷ ‵ (froom word l₁₇ 0) ∷ ‵ (fdies word l₁₇) ∷ ‵ (froom T′.mir l₁₆ 0) ∷ ‵ (fdies T′.mir l₁₆) ∷ ‵ (froom tyPtr l₁₅ 0) ∷ ‵ (fdies tyPtr l₁₅)

@@ -1,4 +1,5 @@
--- `planning::charting::hand_out_chart` meets its contract: the total that is compared with the bound is the fewest, and what is drawn is the chart.
+-- `planning::charting::hand_out_chart` meets its contract: the total that is compared with the bound is the fewest,
+-- and what is drawn is the chart.
 use Prim.Native.Nat.{_-_}
 use Rattle.campaign.proofs.Decoded.{units-dealt, few-dealt, plan-taken}
 use Rattle.format.specs.Answer.{Given}

@@ -1,4 +1,5 @@
--- `planning::plan::hand_out` meets its contract: the total that is compared with the bound is the fewest, and the plan is copied into the output.
+-- `planning::plan::hand_out` meets its contract: the total that is compared with the bound is the fewest, and the plan
+-- is copied into the output.
 use Prim.Native.Nat.{ℕ}
 use Rattle.campaign.proofs.Decoded.{plan-written}
 use Rattle.format.specs.Answer.{Given}

@@ -1,5 +1,6 @@
--- `switch::plan::plan_by_blocks` meets its contract. The loop's invariant is `Planned`: the plan is joined to the first i places, and with the plan from there on joined to the others it is joined to
--- all; the switches so far, with those still to come, are its total.
+-- `switch::plan::plan_by_blocks` meets its contract. The loop's invariant is `Planned`: the plan is joined to the
+-- first i places, and with the plan from there on joined to the others it is joined to all; the switches so far, with
+-- those still to come, are its total.
 use mathlib.Core.Path.{_≡_, ap, _∙_}
 use Prim.Native.Nat.{_-_, _≤_}
 use native.Mathlib.Omega.{arith}
