@@ -1,6 +1,6 @@
--- The bytes of a sheet of edition 1 that is written from d, a bound, a start set and some steps: a record for each step, chained in the order of the steps, and no
--- other. That the chain goes through them in this order, and what the reader says of them, is `written-in-order` and `written-reads-back` in
--- proofs/Demands.antt of `promises`.
+-- The bytes of a sheet of edition 1 that is written from d, a bound, a start set and some steps: a record for each
+-- step, chained in the order of the steps, and no other. That the chain goes through them in this order, and what the
+-- reader says of them, is `written-in-order` and `written-reads-back` in proofs/WrittenSheets.antt of `promises`.
 use Prim.Native.Nat.{ℕ, zero, suc, _+_, _^_, _<_}
 use mathlib.Core.Bool.{cond}
 use mathlib.Core.List.{List, [], _∷_, _++_}
