@@ -1,7 +1,7 @@
 -- A bench whose chambers have all units below d, each in one of them, and steps that each have a feasible set (`Bench`): FindSupport on each chamber, put
 -- together, is a feasible plan, its total is the sum over the chambers, and that is the fewest switches of any feasible plan (`bench-fewest`), whatever orders
 -- break ties.
-use mathlib.Core.Path.{_≡_, refl, sym, ap, _∙_}
+use mathlib.Core.Path.{_≡_, refl, sym, ap, subst, _∙_}
 use mathlib.Core.Logic.{_↔_, ⊎-elim}
 use mathlib.Core.Bool.{Bool, true, and-eq-true-iff}
 use mathlib.Core.List.{List, [], _∷_, List·Memᴰ, List·Memᴰ·not-nil, List·Memᴰ·cases-cons}
@@ -57,10 +57,12 @@ abbrev pub Sound : List Chamber → ℕ → List ChamberLimits → Type 0
 Sound cs d [] = Unit {0}
 Sound cs d (s ∷ ss) = ((s .upper < 2 ^ d) × (someFits cs s ≡ true)) × Sound cs d ss
 
--- so each of them passes that test
-pub sound-at : (cs : List Chamber) (d : ℕ) (ss : List ChamberLimits) → Sound cs d ss → (s : ChamberLimits) → List·Memᴰ s ss → someFits cs s ≡ true
+-- that is so of each of them
+pub sound-at : (cs : List Chamber) (d : ℕ) (ss : List ChamberLimits) → Sound cs d ss → (s : ChamberLimits) → List·Memᴰ s ss
+    → (s .upper < 2 ^ d) × (someFits cs s ≡ true)
 sound-at cs d [] k s m = absurd (List·Memᴰ·not-nil m)
-sound-at cs d (t ∷ ss) k s m = ⊎-elim (λ e. ap (someFits cs) e ∙ k .0 .1) (sound-at cs d ss (k .1) s) (List·Memᴰ·cases-cons m)
+sound-at cs d (t ∷ ss) k s m =
+    ⊎-elim (λ e. subst (λ (x : ChamberLimits). (x .upper < 2 ^ d) × (someFits cs x ≡ true)) (sym e) (k .0)) (sound-at cs d ss (k .1) s) (List·Memᴰ·cases-cons m)
 
 -- no two chambers have a common unit, together they have all units below d, and the steps are sound
 pub record Bench (d : ℕ) (cs : List Chamber) (ss : List ChamberLimits) : Type 0 where

@@ -1,6 +1,7 @@
--- A worked bench of three chambers, computed from the definitions: units 0 and 1 are in the first, none in the second, and units 2 and 3 in the third. Its plan
--- against all plans, its chart, and the sizes of steps. A definition that counts an empty chamber out, or that plans all units as one chamber, makes a row
--- false.
+-- A worked bench of three chambers, computed from the definitions: units 0 and 1 are in the first, none in the second,
+-- and units 2 and 3 in the third. Its plan against all plans, its chart, and the sizes of steps. A definition that
+-- counts an empty chamber out, or that plans all units as one chamber, makes a row false. And one of four chambers:
+-- with the numbers of two of them exchanged, its row is false.
 use mathlib.Core.Path.{_≡_, refl}
 use mathlib.Core.Bool.{true, false}
 use mathlib.Core.List.{List, [], _∷_, map}
@@ -76,3 +77,14 @@ pub bench-sizes :
     × (sizesIn bench (asks 16 15 0 2 0 2) ≡ NoSet))
 unfolding bit intersection difference isSubset size ones onesIn dealt numbered feasibleSizes partSizes sizesIn
 bench-sizes = (refl, (refl, refl))
+
+-- One unit in each of four chambers, of which that of the second must be on and that of the fourth may not: each chamber has its own numbers.
+abbrev each : List Chamber
+each = chambersOf (1 ∷ 1 ∷ 1 ∷ 1 ∷ [])
+
+abbrev second : ChamberLimits
+second = record { lower = 0; upper = 15; least = 0 ∷ 1 ∷ 0 ∷ 0 ∷ []; greatest = 1 ∷ 1 ∷ 1 ∷ 0 ∷ [] }
+
+pub bench-of-four : (supportIn each 0 (second ∷ []) ≡ 2 ∷ []) × (sizesIn each second ≡ Between 1 3)
+unfolding bit union intersection difference contains insert remove isSubset size unitsBelow joined joinedAll nextRequired nextForbidden requiredFirst ranksBy firstIn taken supportSet supportFrom findSupportBy ones onesIn dealt numbered supportInBy feasibleSizes partSizes sizesIn
+bench-of-four = (refl, refl)

@@ -3,14 +3,14 @@
 use mathlib.Core.Path.{_≡_, refl, sym, ap, ap₂, _∙_, subst}
 use mathlib.Core.Logic.{⊎-elim, _↔_}
 use mathlib.Core.Bool.{Bool, true, false, cond, false≢true}
-use mathlib.Core.List.{List, [], _∷_, List·Memᴰ, List·Memᴰ·not-nil, List·Memᴰ·cases-cons}
+use mathlib.Core.List.{List, [], _∷_, List·Memᴰ, List·Memᴰ·head, List·Memᴰ·tail, List·Memᴰ·not-nil, List·Memᴰ·cases-cons}
 use Prim.Native.Nat.{ℕ, _+_, _-_, _≤_, max}
 use native.Mathlib.Omega.{arith}
-use Rattle.units.specs.Limits.{HasSize, hasSet}
+use Rattle.units.specs.Limits.{HasSize, hasSet, hasFeasible}
 use Rattle.units.specs.Sets.{union, intersection, Subset, isSubset, size}
 use Rattle.units.specs.declared.Sizes.{Sizes}
 use Rattle.units.specs.declared.Sizes.the-variants.{Between, NoSet}
-use Rattle.units.proofs.Limits.{sizes-exact, sizes-ordered}
+use Rattle.units.proofs.Limits.{sizes-exact, sizes-ordered, some-feasible, four-tests}
 use Rattle.units.proofs.Sets.{bit-empty, bit-intersection, bit-union, size-empty, size-union, set-ext, subset-holds, subset-test}
 use Rattle.plans.specs.Switch.{Allows, sizesOf}
 use Rattle.chambers.specs.Chambers.{Chamber, ChamberLimits, leastIn, greatestIn, sizeIn, Counted, Fits, partOf, plus, partSizes, sizesIn, someFits}
@@ -69,6 +69,12 @@ has-plus (Between a b) (Between c d) h e k (l, m) =
 has-plus (Between a b) NoSet h e k f = absurd f
 has-plus NoSet w h e k f = absurd f
 
+-- where each part has one, so have both
+plus-some : (z w : Sizes) → hasSet z ≡ true → hasSet w ≡ true → hasSet (plus z w) ≡ true
+plus-some (Between a b) (Between c d) h k = refl
+plus-some (Between a b) NoSet h k = k
+plus-some NoSet w h k = h
+
 -- sums of sizes in order are in order
 plus-order : (z w : Sizes) → InOrder z → InOrder w → InOrder (plus z w)
 plus-order (Between a b) (Between c d) h k = omega arith
@@ -125,6 +131,12 @@ parts-exact (c ∷ cs) s a k =
             ),
           ),
     )
+
+-- there are some if there are some in each
+parts-some : (cs : List Chamber) (s : ChamberLimits) → ((c : Chamber) → List·Memᴰ c cs → hasSet (sizesOf (partOf c s)) ≡ true) → hasSet (partSizes cs s) ≡ true
+unfolding partSizes
+parts-some [] s h = refl
+parts-some (c ∷ cs) s h = plus-some (sizesOf (partOf c s)) (partSizes cs s) (h c (List·Memᴰ·head refl)) (parts-some cs s (λ d m. h d (List·Memᴰ·tail m)))
 
 -- ---- the step
 
@@ -214,3 +226,28 @@ module _ (cs : List Chamber) (s : ChamberLimits) where
       counted-at (d ∷ ds) (l, (g, k)) n =
           ⊎-elim (λ e. subst (λ (b : Chamber). (leastIn b s ≤ sizeIn b x) × (sizeIn b x ≤ greatestIn b s)) (sym e) (l, g)) (λ o. counted-at ds k o)
           (List·Memᴰ·cases-cons n)
+
+  -- There is a feasible set exactly if the lower set is within the upper one and three tests hold in each chamber: the least number is at most the
+  -- greatest, the lower set has at most the greatest number of the chamber's units, and the upper set at least the least number of them.
+  pub four-tests-in : Apart cs
+      → ((x : ℕ) × Fits cs s x)
+      ↔ (Subset (s .lower) (s .upper)
+      × ((c : Chamber) → List·Memᴰ c cs → (leastIn c s ≤ greatestIn c s) × ((sizeIn c (s .lower) ≤ greatestIn c s) × (leastIn c s ≤ sizeIn c (s .upper)))))
+  unfolding someFits sizesIn hasFeasible
+  four-tests-in a = (
+    λ (x, f). ((λ u. omega (arith, f .includes u, f .within u)), λ c m. tests c .0 (intersection x (c .units), part-allowed c m x f) .1),
+    λ (sub, each).
+        some-fits a .0
+        (ap (λ t. hasSet (cond t (partSizes cs s) NoSet)) (subset-test (s .lower) (s .upper) sub) ∙ parts-some cs s (λ c m. part c sub (each c m))),
+  )
+    where
+      tests : (c : Chamber) → ((x : ℕ) × Allows (partOf c s) x) ↔ (Subset (partOf c s .lower) (partOf c s .upper)
+          × ((leastIn c s ≤ greatestIn c s) × ((sizeIn c (s .lower) ≤ greatestIn c s) × (leastIn c s ≤ sizeIn c (s .upper)))))
+      tests c = four-tests (partOf c s .lower) (partOf c s .upper) (leastIn c s) (greatestIn c s)
+
+      part : (c : Chamber) → Subset (s .lower) (s .upper)
+          → (leastIn c s ≤ greatestIn c s) × ((sizeIn c (s .lower) ≤ greatestIn c s) × (leastIn c s ≤ sizeIn c (s .upper)))
+          → hasSet (sizesOf (partOf c s)) ≡ true
+      part c sub each =
+          some-feasible (partOf c s .lower) (partOf c s .upper) (leastIn c s) (greatestIn c s) .1
+          (tests c .1 ((λ u. omega (arith, sub u, bit-intersection (s .lower) (c .units) u, bit-intersection (s .upper) (c .units) u)), each))

@@ -16,7 +16,7 @@ use Rattle.format.specs.Writing.{headerBytes, recordBytes, linkIn, recor
 pub readings-hold : All faults × (All pairsOfFaults × All campaigns)
 unfolding dealt numbered sum partSizes sizesIn someFits chamberHeader chamberRecord sizes stepIn feasibleSizes intersection difference isSubset size hasUnitFrom unless following chainOf isIn linkCauses bytesOf headerBytes recordBytes linkIn recordsAfter sheetOf stepOf nextOf byteAt u16At u32At u64At same stepsCauses readCauses campaignOf ones onesIn faults pairsOfFaults campaigns
 readings-hold = (
-  (refl, (refl, (refl, (refl, (refl, (refl, (refl, (refl, (refl, (refl, (refl, (refl, (refl, (refl, (refl, (refl, (refl, (refl, (refl, (refl, (refl, (refl, (refl, (refl, tt)))))))))))))))))))))))),
+  (refl, (refl, (refl, (refl, (refl, (refl, (refl, (refl, (refl, (refl, (refl, (refl, (refl, (refl, (refl, (refl, (refl, (refl, (refl, (refl, (refl, (refl, (refl, (refl, (refl, (refl, (refl, (refl, (refl, tt))))))))))))))))))))))))))))),
   ((refl, (refl, (refl, (refl, (refl, (refl, (refl, (refl, (refl, (refl, (refl, (refl, (refl, (refl, (refl, (refl, (refl, tt))))))))))))))))), (refl, (refl, (refl, (refl, (refl, (refl, (refl, tt)))))))),
 )
 

@@ -39,6 +39,14 @@ noStep = sheetOf 1 0 0 []
 abbrev pub oneRecord : ℕ → ℕ → List ℕ
 oneRecord first next = headerBytes 1 1 first 0 0 ++ recordBytes (step 0 1 0 1) next
 
+-- one unit, and chains out of record order: 2, 1, and from there out of the two records; and 2, 3, 1, and from there
+-- back to 3. What refusals 4 and 5 name as their place is record 1, which holds the link.
+abbrev pub outOfOrder : List ℕ
+outOfOrder = headerBytes 1 2 2 0 0 ++ recordBytes (step 0 1 0 1) 3 ++ recordBytes (step 0 1 0 1) 1
+
+abbrev pub backAgain : List ℕ
+backAgain = headerBytes 1 3 2 0 0 ++ recordBytes (step 0 1 0 1) 3 ++ recordBytes (step 0 1 0 1) 3 ++ recordBytes (step 0 1 0 1) 1
+
 -- two steps with tags, the first of them in record 2 and the last in record 1; record 3 is unused
 abbrev pub tagsAndUnused : List ℕ
 tagsAndUnused = headerBytes 3 3 2 515 5 ++ recordBytes (tagged 1 7 0 2 67305985) 0 ++ recordBytes (tagged 2 3 1 2 4294967295) 1 ++ replicate 24 255
@@ -120,6 +128,8 @@ unfoldable pub faults : List Example
 faults =
     row (take 23 noStep) (Refused 1 0)
     ∷ row (replicate 8217 0) (Refused 1 0)
+    ∷ row (set noStep 1 78) (Refused 2 0)
+    ∷ row (set noStep 2 78) (Refused 2 0)
     ∷ row (set noStep 3 78) (Refused 2 0)
     ∷ row (set noStep 4 0) (Refused 2 4)
     ∷ row (set noStep 4 3) (Refused 2 4)
@@ -130,9 +140,12 @@ faults =
     ∷ row (set noStep 15 1) (Refused 3 12)
     ∷ row (headerBytes 1 0 0 0 2) (Refused 3 16)
     ∷ row (noStep ++ (0 ∷ [])) (Refused 3 24)
+    ∷ row (take 47 (oneRecord 1 0)) (Refused 3 24)
     ∷ row (oneRecord 2 0) (Refused 4 0)
     ∷ row (oneRecord 1 2) (Refused 4 1)
+    ∷ row outOfOrder (Refused 4 1)
     ∷ row (oneRecord 1 1) (Refused 5 1)
+    ∷ row backAgain (Refused 5 1)
     ∷ row (pair sound foreign) (Refused 6 2)
     ∷ row (pair sound infeasible) (Refused 7 2)
     ∷ row (noChamberStep 2 (four 1 0 0 0)) (Refused 13 12)

@@ -37,6 +37,10 @@ unitLimit = 64
 abbrev pub recordLimit : ℕ
 recordLimit = 256
 
+-- how many chambers a sheet has, some of which may be empty
+abbrev pub chamberCount : ℕ
+chamberCount = 4
+
 -- where the fields of the header lie
 abbrev pub editionAt : ℕ
 editionAt = 4

@@ -6,19 +6,22 @@
 --
 -- There is a theorem for each entry (one for the two that convert), stated as `Exact` in specs/Statements.antt.
 -- Take from it the list of causes, which numbers it can have (`StepsNumber` and the like), and the two results,
--- after a refusal and with a full reply. Last come what row 7 of the table tests, and that the walk along the chain
--- ends.
+-- after a refusal and with a full reply. Last come what row 7 of the table tests, in one sentence and in four tests, and
+-- that the walk along the chain ends.
 use mathlib.Core.Path.{_≡_, refl}
 use mathlib.Core.Logic.{_↔_, _⊎_, inl, inr}
 use mathlib.Core.Bool.{Bool, true}
-use mathlib.Core.List.{List, [], _++_}
+use mathlib.Core.List.{List, [], _++_, List·Memᴰ}
 use Prim.Native.Nat.{ℕ, suc, _+_, _≤_, min}
 use native.Mathlib.Omega.{arith}
 use lib.ListN.{length}
+use Rattle.units.specs.Limits.{Feasible}
+use Rattle.units.specs.Sets.{Subset, size}
+use Rattle.units.proofs.Limits.{four-tests}
 use Rattle.plans.specs.Switch.{total}
-use Rattle.chambers.specs.Chambers.{chambersOf, Fits, someFits}
+use Rattle.chambers.specs.Chambers.{Chamber, chambersOf, leastIn, greatestIn, sizeIn, Fits, someFits}
 use Rattle.chambers.proofs.Dealt.{dealt-apart}
-use Rattle.chambers.proofs.Sizes.{some-fits}
+use Rattle.chambers.proofs.Sizes.{some-fits, four-tests-in}
 use Rattle.format.specs.declared.ChamberStep.{ChamberStep}
 use Rattle.format.specs.declared.Step.{Step}
 use Rattle.format.specs.Answer.{Refused, Given, unless}
@@ -147,6 +150,24 @@ demand-1-convert first s out =
 -- is feasible there.
 pub a-feasible-set : (sizes : List ℕ) (x : ChamberStep) → someFits (chambersOf sizes) (limitsOf x) ≡ true ↔ ((set : ℕ) × Fits (chambersOf sizes) (limitsOf x) set)
 a-feasible-set sizes x = some-fits (chambersOf sizes) (limitsOf x) (dealt-apart 0 0 sizes)
+
+-- A step of one chamber has a feasible set exactly if the lower set lies within the upper one, the least number is at
+-- most the greatest, the size of the lower set at most the greatest number, and the size of the upper set at least the
+-- least.
+pub the-four-tests : (lower upper least greatest : ℕ)
+    → ((set : ℕ) × Feasible lower upper least greatest set)
+    ↔ (Subset lower upper × ((least ≤ greatest) × ((size lower ≤ greatest) × (least ≤ size upper))))
+the-four-tests = four-tests
+
+-- A step of several has one exactly if the lower set lies within the upper one, and the other three tests hold in each
+-- chamber, of its two numbers and of how many of its units the two sets have.
+pub the-four-tests-in-chambers : (sizes : List ℕ) (x : ChamberStep)
+    → ((set : ℕ) × Fits (chambersOf sizes) (limitsOf x) set)
+    ↔ (Subset (x .lower) (x .upper)
+    × ((c : Chamber) → List·Memᴰ c (chambersOf sizes)
+    → (leastIn c (limitsOf x) ≤ greatestIn c (limitsOf x))
+    × ((sizeIn c (x .lower) ≤ greatestIn c (limitsOf x)) × (leastIn c (limitsOf x) ≤ sizeIn c (x .upper)))))
+the-four-tests-in-chambers sizes x = four-tests-in (chambersOf sizes) (limitsOf x) (dealt-apart 0 0 sizes)
 
 -- the walk along the chain never runs out of links to look at: looking at more gives the same refusal or the same
 -- chain

@@ -5,7 +5,7 @@
 -- Demand 1, `Demand1`: a full reply or one refusal, exactly when its cause holds and no earlier one does
 --     `demand-1-steps`, `demand-1-plan`, `demand-1-chart`, `demand-1-verdict`, `demand-1-listing`,
 --     `demand-1-sizes`, `demand-1-write`, `demand-1-convert`
---     `a-feasible-set`, what row 7 of the table tests
+--     `a-feasible-set`, `the-four-tests`, `the-four-tests-in-chambers`, what row 7 of the table tests
 --     `the-walk-ends`, the walk along the chain never runs out of links to look at
 --
 -- Demand 2, `Demand2`: the verdict accepts a plan exactly if it meets the sheet, and accepts each that was handed out
@@ -20,7 +20,7 @@
 -- Request Two: the code of the listing alone, no theorem
 --
 -- Request Three, `StepSizes`: the sizes of a step are those of its feasible sets
---     `the-sizes`, `the-sizes-in-order`, `each-step-has-sizes`
+--     `the-printed-sizes`, `the-sizes`, `the-sizes-in-order`
 --
 -- Request Four, `FirstLoading`: the count of switches that leaves out the loading of the first step
 --     `first-loading-left-out`, `all-units-on-at-the-start`

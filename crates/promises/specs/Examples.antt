@@ -51,6 +51,10 @@ oneOfEach bound start = chamberHeader 4 2 1 bound (four 2 0 2 0) start ++ chambe
 abbrev pub fullChamber : List ℕ
 fullChamber = chamberHeader 3 1 1 3 (four 2 0 1 0) 0 ++ chamberRecord (chambered 0 7 (four 0 0 1 0) (four 1 0 1 0) 0 0) 0
 
+-- One unit in each of four chambers, and one step: the unit of chamber 2 must be on, and that of chamber 4 may not be.
+abbrev pub fourChambers : List ℕ
+fourChambers = chamberHeader 4 1 1 4 (four 1 1 1 1) 0 ++ chamberRecord (chambered 0 15 (four 0 1 0 0) (four 1 1 1 0) 0 0) 0
+
 -- Four runs in edition 2, with a bound.
 abbrev pub raisedRuns : ℕ → List ℕ
 raisedRuns bound = chamberHeader 3 4 1 bound (four 3 0 0 0) 0 ++ run 1 2 ++ run 2 3 ++ run 4 4 ++ run 1 0
@@ -199,7 +203,8 @@ loadings =
 
 -- Sheets of edition 2. Their steps, with four numbers each. One unit of each chamber: in each, the higher number, and the whole total is bounded. With units 0 and 2 on at the
 -- start and nothing to spare, these stay; with one switch to spare either chamber may use it, and so each unit can be on and off; but not both chambers, as the verdict says. Two of one
--- chamber and none of the other are not feasible. A full chamber: its unit cannot be off. Its sizes: "1 1 2". Then refusals 13 and 14.
+-- chamber and none of the other are not feasible. A full chamber: its unit cannot be off. Four chambers, of which each has numbers of its own. The sizes of the full
+-- one: "1 1 2". Then refusals 13 and 14.
 unfoldable pub chamberings : List Example
 chamberings =
     steps (twoChambers oneOfThird oneOfThird) (nineStep ∷ nineStep ∷ nineStep ∷ [])
@@ -213,6 +218,8 @@ chamberings =
     ∷ verdict (oneOfEach 2 5) (3 ∷ 3 ∷ []) (fullReply 1 0)
     ∷ plan fullChamber (9 ∷ []) (fullReply 1 0) (4 ∷ [])
     ∷ chart fullChamber (9 ∷ []) (9 ∷ []) (fullReply 1 0) (7 ∷ []) (3 ∷ [])
+    ∷ plan fourChambers (9 ∷ []) (fullReply 1 0) (2 ∷ [])
+    ∷ chart fourChambers (9 ∷ []) (9 ∷ []) (fullReply 1 0) (7 ∷ []) (13 ∷ [])
     ∷ sizes fullChamber (49 ∷ 32 ∷ 49 ∷ 32 ∷ 50 ∷ 10 ∷ [])
     ∷ plan (noChamberStep 2 (four 1 0 0 0)) nines (refusedReply 13 12) nines
     ∷ chart (twoChambers oneOfThird notZero) nines threeNines (refusedReply 14 2) nines threeNines

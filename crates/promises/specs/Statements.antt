@@ -5,12 +5,12 @@ use mathlib.Core.Bool.{Bool}
 use mathlib.Core.Logic.{_↔_, _⊎_}
 use mathlib.Core.List.{List, [], _∷_, map}
 use lib.ListN.{length, getD, take}
-use Rattle.units.specs.Sets.{bit}
+use Rattle.units.specs.Sets.{bit, size}
 use Rattle.format.specs.Answer.{Cause, First}
 use Rattle.format.specs.Editions.{narrowed}
 use Rattle.format.specs.Format.{isFirst, unitsOf, recordsOf, boundOf, startOf, sizes, sizesList, chambersIn, stepOf, nextOf}
 use Rattle.format.specs.Reading.{recordsOn, stepsOf, readCauses}
-use Rattle.chambers.specs.Chambers.{sizesIn, supportInBy}
+use Rattle.chambers.specs.Chambers.{Chamber, ChamberLimits, Fits, sizesIn, supportInBy}
 use Rattle.chambers.specs.Parts.{withoutChambers}
 use Rattle.plans.specs.declared.Limits.{Limits}
 use Rattle.plans.specs.Plans.{allows, fewest, canBeOn, canBeOff}
@@ -45,6 +45,13 @@ Meets s plan = FeasibleOn s plan × (total (startOf s) plan ≤ boundOf s)
 pub record HandedOut (s : List ℕ) (reply : Reply) (out : List ℕ) : Type 0 where
   pub support : take (length (stepsOf s)) out ≡ supportOn s
   pub accepted : warmVerdict s (take (length (stepsOf s)) out) ≡ fullReply (reply .total) 1
+
+-- `few` and `many` are the least and the greatest size of a feasible set of a step: some has each, and none has fewer
+-- units or more
+pub record LeastAndGreatest (cs : List Chamber) (x : ChamberLimits) (few many : ℕ) : Type 0 where
+  pub least : (set : ℕ) × (Fits cs x set × (size set ≡ few))
+  pub greatest : (set : ℕ) × (Fits cs x set × (size set ≡ many))
+  pub all : (set : ℕ) → Fits cs x set → (few ≤ size set) × (size set ≤ many)
 
 -- some plan that meets the sheet has unit u on in step i (v = 1), or off (v = 0); steps count from 0 here
 abbrev pub SomePlanHas : List ℕ → ℕ → ℕ → ℕ → Type 0

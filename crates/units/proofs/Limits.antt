@@ -84,6 +84,27 @@ module _ (lower upper least greatest : ℕ) where
       (λ h o. (λ t. let (x, (f, is)) = of-size h low (omega arith) o in (x, f), λ w. refl))
       (λ none. (λ t. absurd (false≢true t), λ (x, f). absurd (none x f)))
 
-  -- limits that pass four tests allow some set
+  -- of a set between the lower and the upper one, the numbers and the sizes say the same
+  pub counted-by-sizes : (x : ℕ) → Subset lower x → Subset x upper
+      → HasSize (feasibleSizes lower upper least greatest) (size x) ↔ ((least ≤ size x) × (size x ≤ greatest))
+  counted-by-sizes x includes within =
+      either-way (λ z. HasSize z (size x) ↔ ((least ≤ size x) × (size x ≤ greatest)))
+      (λ h o. (λ (l, m). (omega arith, omega arith), λ (l, m). between-ends x (feasible l m)))
+      (λ none. (λ z. absurd z, λ (l, m). none x (feasible l m)))
+    where
+      feasible : least ≤ size x → size x ≤ greatest → Feasible lower upper least greatest x
+      feasible l m = record { includes = includes; within = within; enough = l; few = m }
+
+  -- the limits allow some set exactly if they pass four tests
+  pub four-tests : ((x : ℕ) × Feasible lower upper least greatest x)
+      ↔ (Subset lower upper × ((least ≤ greatest) × ((size lower ≤ greatest) × (least ≤ size upper))))
+  four-tests = (
+    λ (x, f).
+        let (l, m) = between-ends x f in
+        ((λ u. omega (arith, f .includes u, f .within u)), (omega (arith, f .enough, f .few), (omega arith, omega arith))),
+    λ (h, (p, (q, r))). let (x, (f, is)) = of-size h low (omega arith) (omega (arith, size-mono lower upper h)) in (x, f),
+  )
+
+  -- so limits that pass them pass the test of the code
   pub fits : Subset lower upper → least ≤ greatest → size lower ≤ greatest → least ≤ size upper → hasFeasible lower upper least greatest ≡ true
-  fits h p q r = let (x, (f, is)) = of-size h low (omega arith) (omega (arith, size-mono lower upper h)) in some-feasible .1 (x, f)
+  fits h p q r = some-feasible .1 (four-tests .1 (h, (p, (q, r))))
