@@ -1,40 +1,73 @@
--- The check of a plan: what a step asks of an empty chamber (`none-counted`) and of all four (`four-counts`), and the loop along the chain (`Checking`).
+-- The check of a plan: what a step asks of a chamber, by the sizes of its part (`counted-by`), and of all four (`four-counts`), and the loop along the chain
+-- (`Checking`).
 use mathlib.Core.Path.{_≡_, sym, ap, ap₂, _∙_}
-use mathlib.Core.Bool.{Bool, true, false, _&&_, and-true, and-assoc}
+use mathlib.Core.Logic.{_↔_}
+use mathlib.Core.Bool.{Bool, true, false, _&&_, and-true, and-assoc, and-eq-true-iff, false≢true}
 use mathlib.Core.List.{List, [], _∷_, map}
 use Prim.Native.Nat.{ℕ, _+_, _-_, _*_, _≤_, _<_}
 use native.Mathlib.Numerals.{add-one}
-use native.Mathlib.Decide.{ℕ-discrete}
 use native.Mathlib.Omega.{arith}
-use borrow.Author.Tests.{eq-eqb, ne-eqb, le-leb, lt-leb}
-use lib.Dec.{eqb, leb}
+use borrow.Author.Tests.{le-leb, leb-true}
+use lib.Dec.{leb}
 use lib.ListN.{length, drop, getD, drop-of-length-le}
 use lib.Seq.{drop-cons}
-use Rattle.units.specs.Sets.{difference, intersection, size}
-use Rattle.units.proofs.Sets.{bit-empty, bit-intersection, set-ext, size-empty}
-use Rattle.chambers.specs.Chambers.{Chamber, chamber, numbered, ChamberLimits, countFits, counts, fits}
+use Rattle.units.specs.Limits.{HasSize}
+use Rattle.units.specs.Sets.{isSubset, difference, intersection, size}
+use Rattle.units.specs.declared.Sizes.{Sizes}
+use Rattle.units.specs.declared.Sizes.the-variants.{Between, NoSet}
+use Rattle.units.proofs.Limits.{same-test, counted-by-sizes}
+use Rattle.units.proofs.Sets.{bit-intersection, subset-holds}
+use Rattle.chambers.specs.Chambers.{Chamber, chamber, numbered, ChamberLimits, leastIn, greatestIn, sizeIn, partOf, countFits, counts, fits}
 use Rattle.plans.specs.Plans.{isFeasible}
-use Rattle.plans.specs.Switch.{switches, total}
+use Rattle.plans.specs.Switch.{sizesOf, switches, total}
+use Rattle.plans.specs.declared.Limits.{Limits}
 use Rattle.format.specs.Chain.{Inside, stepsFrom}
-use Rattle.format.specs.Format.{limitsOf, nextOf, stepOf}
+use Rattle.format.specs.Format.{chamberCount, limitsOf, nextOf, stepOf}
 use Rattle.sheet.proofs.Along.{Along, along-begun, along-on, steps-next, steps-none}
 
--- of a chamber without units none is on
-pub none-counted : (s : ChamberLimits) (c set : ℕ) → eqb (getD (s .least) c 0) 0 ≡ countFits (chamber c 0) s set
-none-counted s c set = go (ℕ-discrete least 0) ∙ sym (ap (λ (k : ℕ). leb least k && leb k (getD (s .greatest) c 0)) none)
+-- ---- one chamber
+
+-- the test that a number is one of the sizes
+abbrev pub isSize : Sizes → ℕ → Bool
+isSize (Between few many) k = leb few k && leb k many
+isSize NoSet k = false
+
+from-to : (a k b : ℕ) → (leb a k && leb k b) ≡ true ↔ ((a ≤ k) × (k ≤ b))
+from-to a k b = (
+  λ e. let (l, m) = and-eq-true-iff (leb a k) (leb k b) .0 e in (leb-true a k l, leb-true k b m),
+  λ (l, m). and-eq-true-iff (leb a k) (leb k b) .1 (le-leb a k l, le-leb k b m),
+)
+
+is-size : (z : Sizes) (k : ℕ) → isSize z k ≡ true ↔ HasSize z k
+is-size (Between few many) k = from-to few k many
+is-size NoSet k = (λ e. absurd (false≢true e), λ h. absurd h)
+
+-- Of a set between the lower and the upper set of a step, the count in a chamber fits exactly if it is one of the sizes of the chamber's part, as they were found.
+pub counted-by : (c : Chamber) (s : ChamberLimits) (set : ℕ) {k : ℕ} {z : Sizes} → isSubset (s .lower) set ≡ true → isSubset set (s .upper) ≡ true
+    → k ≡ sizeIn c set → z ≡ sizesOf (partOf c s) → isSize z k ≡ countFits c s set
+counted-by c s set includes within p e =
+    ap₂ isSize e p ∙ same-test (isSize (sizesOf (partOf c s)) (sizeIn c set)) (countFits c s set)
+    (λ t. fits .1 (same .0 (is .0 t))) (λ t. is .1 (same .1 (fits .0 t)))
   where
-    least : ℕ
-    least = getD (s .least) c 0
+    part : Limits
+    part = partOf c s
 
-    none : size (intersection set 0) ≡ 0
-    none = ap size (set-ext (intersection set 0) 0 (λ u. omega (arith, bit-intersection set 0 u, bit-empty u))) ∙ size-empty
+    same : HasSize (sizesOf part) (sizeIn c set) ↔ ((leastIn c s ≤ sizeIn c set) × (sizeIn c set ≤ greatestIn c s))
+    same =
+        counted-by-sizes (part .lower) (part .upper) (part .least) (part .greatest) (intersection set (c .units))
+        (λ u. omega (arith, bit-intersection (s .lower) (c .units) u, bit-intersection set (c .units) u, subset-holds (s .lower) set includes u))
+        (λ u. omega (arith, bit-intersection (s .upper) (c .units) u, bit-intersection set (c .units) u, subset-holds set (s .upper) within u))
 
-    go : Dec (least ≡ 0) → eqb least 0 ≡ (leb least 0 && leb 0 (getD (s .greatest) c 0))
-    go (yes e) = simp (eq-eqb least 0 e, le-leb least 0 (omega (arith, e)), le-leb 0 (getD (s .greatest) c 0) (omega arith))
-    go (no n) = simp (ne-eqb least 0 n, lt-leb least 0 (omega (arith, n)))
+    is : isSize (sizesOf part) (sizeIn c set) ≡ true ↔ HasSize (sizesOf part) (sizeIn c set)
+    is = is-size (sizesOf part) (sizeIn c set)
+
+    fits : countFits c s set ≡ true ↔ ((leastIn c s ≤ sizeIn c set) × (sizeIn c set ≤ greatestIn c s))
+    fits = from-to (leastIn c s) (sizeIn c set) (greatestIn c s)
+
+-- ---- all four
 
 -- the counts of all four chambers: the first that does not fit decides, and else the last one does
-module _ (us : List ℕ) (s : ChamberLimits) (set : ℕ) (four : length us ≡ 4) where
+module _ (us : List ℕ) (s : ChamberLimits) (set : ℕ) (four : length us ≡ chamberCount) where
   abbrev fit : ℕ → Bool
   fit c = countFits (chamber c (getD us c 0)) s set
 
@@ -42,7 +75,7 @@ module _ (us : List ℕ) (s : ChamberLimits) (set : ℕ) (four : length us ≡ 4
   unfolding numbered counts
   four-counts = go us four
     where
-      go : (us : List ℕ) → length us ≡ 4
+      go : (us : List ℕ) → length us ≡ chamberCount
           → (countFits (chamber 0 (getD us 0 0)) s set && (countFits (chamber 1 (getD us 1 0)) s set && (countFits (chamber 2 (getD us 2 0)) s set && countFits (chamber 3 (getD us 3 0)) s set)))
           ≡ counts (numbered 0 us) s set
       go [] h = absurd (omega arith)
@@ -64,6 +97,8 @@ module _ (us : List ℕ) (s : ChamberLimits) (set : ℕ) (four : length us ≡ 4
 
   pub fourth-decides : fit 0 ≡ true → fit 1 ≡ true → fit 2 ≡ true → fit 3 ≡ counts (numbered 0 us) s set
   fourth-decides e f g = (λ i. sym e i && (sym f i && (sym g i && fit 3))) ∙ four-counts
+
+-- ---- the loop
 
 -- after i sets, at record `at`: what was found with what is still to be found is all
 pub record Checking (cs : List Chamber) (s : List ℕ) (start : ℕ) (plan : List ℕ) (at i before : ℕ) (feasible : Bool) (sum : ℕ) : Type 0 where

@@ -20,14 +20,14 @@ use Rattle.format.specs.declared.Header.{Header}
 use Rattle.format.specs.declared.Summary.{Summary}
 use Rattle.format.specs.Answer.{Given}
 use Rattle.format.specs.Chain.{stepsFrom}
-use Rattle.format.specs.Format.{unitLimit, sizes, sizesList, chambersIn, limitsOf, startOf}
+use Rattle.format.specs.Format.{unitLimit, chamberCount, sizes, sizesList, chambersIn, limitsOf, startOf}
 use Rattle.format.specs.Reading.{stepsOf}
 use Rattle.format.specs.Stages.{summaryRead}
 use Rattle.promises.specs.Common.{limitsOn, sizedIn, written}
 use Rattle.promises.specs.Plan.{supportOn}
 use Rattle.promises.proofs.Plans.{plan-length-on}
 use Rattle.promises.proofs.Read.{was-opened, many-steps, bench}
-use Rattle.campaign.specs.Benches.{chamberCount, unitsOn, chamberOn}
+use Rattle.campaign.specs.Benches.{unitsOn, chamberOn}
 
 -- words that were put into the first places are there
 taken-again : (words : List ℕ) (n : ℕ) → length words ≡ n → (before : List ℕ) {made : List ℕ} → made ≡ sets before 0 words → n ≤ length before → take n made ≡ words

@@ -22,12 +22,12 @@ use Rattle.plans.proofs.Laid.{sets-first}
 use Rattle.plans.proofs.Orders.{tie-ordered}
 use Rattle.format.specs.declared.Summary.{Summary}
 use Rattle.format.specs.Answer.{Given}
-use Rattle.format.specs.Format.{unitsOf, startOf, chambersIn}
+use Rattle.format.specs.Format.{chamberCount, unitsOf, startOf, chambersIn}
 use Rattle.format.specs.Stages.{summaryRead}
 use Rattle.promises.specs.Common.{limitsOn}
 use Rattle.promises.specs.Plan.{supportOn}
 use Rattle.promises.proofs.Read.{was-opened, bench, few-units}
-use Rattle.campaign.specs.Benches.{chamberCount, unitsOn, chamberOn}
+use Rattle.campaign.specs.Benches.{unitsOn, chamberOn}
 use Rattle.campaign.proofs.Decoded.{four-dealt, many-limits, plan-long, part-long}
 
 -- an output to which words without a unit are joined is as it was

@@ -12,10 +12,6 @@ use Rattle.plans.specs.Plans.{joined}
 use Rattle.plans.specs.Rows.{rowSize, rowsOf}
 use Rattle.promises.specs.Common.{limitsOn, sizedIn}
 
--- how many chambers a sheet has
-abbrev pub chamberCount : ℕ
-chamberCount = 4
-
 -- the units of each chamber, and the chamber number c
 abbrev pub unitsOn : List ℕ → List ℕ
 unitsOn s = dealt 0 (sizesList (sizes s))

@@ -3,25 +3,28 @@ use format::ChamberStep;
 use format::Summary;
 use sheet::parts::Chambers;
 use sheet::parts::deal;
+use sheet::parts::part_sizes;
 use sheet::record::follow;
 use sheet::record::is_first;
 use sheet::record::step_at;
+use units::Sizes;
 use units::difference;
 use units::intersection;
 use units::is_subset;
 use units::size;
 ghost use mathlib.Core.Path.{_≡_};
-ghost use mathlib.Core.Bool.{_&&_};
+ghost use mathlib.Core.Bool.{true, _&&_};
 ghost use Prim.Native.Nat.{_<_};
+ghost use lib.Dec.{leb};
 ghost use lib.ListN.{length};
+ghost use Rattle.units.specs.Sets.{isSubset};
 ghost use Rattle.chambers.specs.Chambers.{chamber, numbered, countFits, counts, fits};
 ghost use Rattle.plans.specs.Plans.{isFeasible};
 ghost use Rattle.plans.specs.Switch.{total};
 ghost use Rattle.format.specs.Answer.{Given};
-ghost use Rattle.format.specs.Format.{limitsOf, startOf};
+ghost use Rattle.format.specs.Format.{chamberCount, limitsOf, startOf};
 ghost use Rattle.format.specs.Stages.{summaryRead};
 ghost use Rattle.promises.specs.Common.{limitsOn, fitsOn};
-ghost use Rattle.campaign.specs.Benches.{chamberCount};
 
 // What is known of a plan: whether it is feasible, and its total, feasible or not.
 pub struct Checked {
@@ -29,26 +32,35 @@ pub struct Checked {
     pub total: u32,
 }
 
-// Whether a set has in chamber number c, which has these units, a number of units from the least to the greatest that a step asks for there. Of an empty chamber
-// nothing is counted.
-fn count_fits(x: ChamberStep, c: usize, units: u64, set: u64) -> bool
-    requires { ⌜ c < chamberCount ⌝ }
-    ensures { λ r. ⌜ r ≡ countFits (chamber c units) (limitsOf x) set ⌝ }
+// Whether a number lies from the one to the other.
+fn lies_between(k: u32, few: u32, many: u32) -> bool
+    ensures { λ r. ⌜ r ≡ (leb few k && leb k many) ⌝ }
 {
-    let least = x.least;
-    let greatest = x.greatest;
-    if units == 0 {
-        return least[c] == 0;
-    }
-    let many = size(intersection(set, units));
-    if many < least[c] as u32 {
+    if k < few {
         return false;
     }
-    many <= greatest[c] as u32
+    k <= many
+}
+
+// Whether a set between the lower and the upper set of a step has in chamber number c, which has these units, a number
+// of units from the least to the greatest that the step asks for there: whether it is one of the sizes of the chamber's
+// part of the step.
+fn count_fits(x: ChamberStep, c: usize, units: u64, set: u64) -> bool
+    requires { ⌜ c < chamberCount ⌝ }
+    requires { ⌜ isSubset (x .lower) set ≡ true ⌝ }
+    requires { ⌜ isSubset set (x .upper) ≡ true ⌝ }
+    ensures { λ r. ⌜ r ≡ countFits (chamber c units) (limitsOf x) set ⌝ }
+{
+    match part_sizes(x, c, units) {
+        Sizes::Between(few, many) => lies_between(size(intersection(set, units)), few, many),
+        Sizes::NoSet => false,
+    }
 }
 
 // Whether it does so in each chamber.
 fn counts_fit(x: ChamberStep, chambers: Chambers, set: u64) -> bool
+    requires { ⌜ isSubset (x .lower) set ≡ true ⌝ }
+    requires { ⌜ isSubset set (x .upper) ≡ true ⌝ }
     ensures { λ r. ⌜ r ≡ counts (numbered 0 (chambers .units)) (limitsOf x) set ⌝ }
 {
     let us = chambers.units;

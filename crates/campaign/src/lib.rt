@@ -5,6 +5,7 @@ pub mod check;
 
 use format::Summary;
 use plans::Limits;
+use sheet::Sheet;
 use sheet::decode::decode;
 use sheet::parts::deal;
 use switch::plan::plan;
@@ -17,13 +18,10 @@ ghost use lib.Seq.{sets};
 ghost use Rattle.plans.specs.Rows.{rowSize};
 ghost use Rattle.plans.specs.Switch.{total};
 ghost use Rattle.format.specs.Answer.{Given};
-ghost use Rattle.format.specs.Format.{startOf};
+ghost use Rattle.format.specs.Format.{chamberCount, startOf};
 ghost use Rattle.format.specs.Stages.{summaryRead};
 ghost use Rattle.promises.specs.Plan.{supportOn};
-ghost use Rattle.campaign.specs.Benches.{chamberCount, chamberOn, DecodedIn, planOn, totalOn, joinedTo};
-
-// How many chambers a sheet has.
-pub const CHAMBERS: usize = 4;
+ghost use Rattle.campaign.specs.Benches.{chamberOn, DecodedIn, planOn, totalOn, joinedTo};
 
 // Joins the plan of chamber number c, which has these units, to the first places of `out`, and gives its total. Its
 // words stay in the first places of `rows`, unless the chamber is empty.
@@ -69,7 +67,7 @@ pub fn plan_read(sheet: &[u8], x: Summary, rows: &mut [u64], out: &mut [u64]) ->
     let us = chambers.units;
     clear(out, x.steps as usize);
     let mut total = 0;
-    let mut c = CHAMBERS;
+    let mut c = Sheet::CHAMBERS;
     while 0 < c {
         c -= 1;
         total += join_chamber(sheet, x, c, us[c], rows, out);

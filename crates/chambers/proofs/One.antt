@@ -10,7 +10,7 @@ use Prim.Native.Nat.{ℕ, zero, suc, _+_, _-_, _^_, _≤_, _<_}
 use native.Mathlib.Omega.{arith}
 use lib.ListN.{getD, length-map}
 use Rattle.units.specs.Sets.{intersection, Subset, size}
-use Rattle.units.proofs.Limits.{sizes-exact, sizes-ordered}
+use Rattle.units.proofs.Limits.{same-test, sizes-exact, sizes-ordered}
 use Rattle.units.proofs.Sets.{bit-empty, bit-intersection, set-ext, size-empty, subset-below, subset-full}
 use Rattle.plans.specs.Plans.{allows, select, below, prefixed, plansOf, leastOf, fewest, plansWithin, canBeOn, canBeOff, canBe}
 use Rattle.plans.specs.Support.{findSupport}
@@ -121,12 +121,7 @@ module _ (d : ℕ) (s : ChamberLimits) (low : s .upper < 2 ^ d) (k : someFits (o
       let new = fits-exactly (oneChamber d) s y in
       let old = allows-exactly (withoutChambers s) y in
       let same = one-fits y in
-      alike (fits (oneChamber d) s y) (allows (withoutChambers s) y) (λ e. old .1 (same .0 (new .0 e))) (λ e. new .1 (same .1 (old .0 e)))
-    where
-      alike : (a b : Bool) → (a ≡ true → b ≡ true) → (b ≡ true → a ≡ true) → a ≡ b
-      alike true b f g = sym (f refl)
-      alike false true f g = g refl
-      alike false false f g = refl
+      same-test (fits (oneChamber d) s y) (allows (withoutChambers s) y) (λ e. old .1 (same .0 (new .0 e))) (λ e. new .1 (same .1 (old .0 e)))
 
   -- and the sizes are the same
   one-sizes : sizesIn (oneChamber d) s ≡ sizesOf (withoutChambers s)

@@ -27,13 +27,13 @@ use Rattle.chart.specs.Joining.{joining}
 use Rattle.chart.proofs.Joins.{joined-words}
 use Rattle.format.specs.declared.Summary.{Summary}
 use Rattle.format.specs.Answer.{Given}
-use Rattle.format.specs.Format.{unitsOf, boundOf, startOf, chambersIn}
+use Rattle.format.specs.Format.{chamberCount, unitsOf, boundOf, startOf, chambersIn}
 use Rattle.format.specs.Stages.{summaryRead}
 use Rattle.promises.specs.Common.{limitsOn, sizedIn}
 use Rattle.promises.specs.Plan.{supportOn}
 use Rattle.promises.proofs.Charts.{wordsOf}
 use Rattle.promises.proofs.Read.{bench, few-units}
-use Rattle.campaign.specs.Benches.{chamberCount, unitsOn, chamberOn, DecodedIn}
+use Rattle.campaign.specs.Benches.{unitsOn, chamberOn, DecodedIn}
 use Rattle.campaign.proofs.Decoded.{four-dealt, many-limits, chamber-in, part-taken}
 use Rattle.campaign.proofs.Planned.{none-added}
 

@@ -1,9 +1,9 @@
 // The chart of a sheet that was read, drawn chamber by chamber from its plan: what the bound leaves to spare in all,
 // it leaves in each. Nothing here is an open entry of the library.
-use campaign::CHAMBERS;
 use chart::draw_chart;
 use format::Summary;
 use plans::Limits;
+use sheet::Sheet;
 use sheet::decode::decode;
 use sheet::parts::Chambers;
 use units::intersection;
@@ -14,11 +14,11 @@ ghost use mathlib.Core.Bool.{true, false};
 ghost use Prim.Native.Nat.{_+_, _*_, _≤_, _<_};
 ghost use lib.ListN.{length, take};
 ghost use lib.Seq.{sets};
-ghost use Rattle.campaign.specs.Benches.{chamberCount, unitsOn, chamberOn, DecodedIn, chartOn, joinedTo};
+ghost use Rattle.campaign.specs.Benches.{unitsOn, chamberOn, DecodedIn, chartOn, joinedTo};
 ghost use Rattle.plans.specs.Rows.{rowSize};
 ghost use Rattle.plans.specs.Switch.{total};
 ghost use Rattle.format.specs.Answer.{Given};
-ghost use Rattle.format.specs.Format.{startOf};
+ghost use Rattle.format.specs.Format.{chamberCount, startOf};
 ghost use Rattle.format.specs.Stages.{summaryRead};
 ghost use Rattle.promises.specs.Chart.{onWords, offWords};
 ghost use Rattle.promises.specs.Plan.{supportOn};
@@ -133,7 +133,7 @@ pub fn draw_all(
     clear(off, n);
     draw_decoded(sheet, x, 0, us[0], slack, plan, rows, part, on, off);
     let mut c = 1;
-    while c < CHAMBERS {
+    while c < Sheet::CHAMBERS {
         draw_chamber(sheet, x, c, us[c], slack, plan, rows, part, on, off);
         c += 1;
     }

@@ -10,7 +10,7 @@ use native.Mathlib.Omega.{arith}
 use lib.ListN.{length, length-map}
 use Rattle.units.specs.Sets.{union, intersection, difference, contains, size, Subset}
 use Rattle.units.specs.Limits.{leastSize, greatestSize}
-use Rattle.units.proofs.Limits.{either-way, some-feasible}
+use Rattle.units.proofs.Limits.{same-test, either-way, some-feasible}
 use Rattle.units.proofs.Sets.{bit-difference, bit-intersection, bit-union, size-difference-le, size-mono}
 use Rattle.plans.specs.declared.Limits.{Limits}
 use Rattle.plans.specs.Plans.{allows, Below, select, below, prefixed, isFeasible, plansOf, plansWithin, canBeOn, canBeOff, canBe}
@@ -62,12 +62,7 @@ module _ (s : Limits) where
   allows-same x =
       let new = allows-exactly (sized s) x in
       let old = allows-exactly s x in
-      same (allows (sized s) x) (allows s x) (λ e. old .1 (sized-allows x .0 (new .0 e))) (λ e. new .1 (sized-allows x .1 (old .0 e)))
-    where
-      same : (a b : Bool) → (a ≡ true → b ≡ true) → (b ≡ true → a ≡ true) → a ≡ b
-      same true b f g = sym (f refl)
-      same false true f g = g refl
-      same false false f g = refl
+      same-test (allows (sized s) x) (allows s x) (λ e. old .1 (sized-allows x .0 (new .0 e))) (λ e. new .1 (sized-allows x .1 (old .0 e)))
 
   -- FindSupport takes the same set: as many units leave, since there are no more than the upper set has, and as many join, since the lower set stays
   pub sized-set : {ranks : ℕ → ℕ → Bool} → Ordered ranks → (before : ℕ) → supportSet ranks (sized s) before ≡ supportSet ranks s before

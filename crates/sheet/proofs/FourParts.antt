@@ -19,7 +19,7 @@ use Rattle.chambers.specs.Chambers.{chamber, unitsFrom, dealt, numbered, Chambe
 use Rattle.chambers.proofs.Dealt.{none-from}
 use Rattle.format.specs.declared.ChamberSizes.{ChamberSizes}
 use Rattle.format.specs.declared.ChamberStep.{ChamberStep}
-use Rattle.format.specs.Format.{recordOffset, isFirst, unitsOf, oneSize, fourSizes, sizes, sizesList, stepIn, stepOf, limitsOf}
+use Rattle.format.specs.Format.{chamberCount, recordOffset, isFirst, unitsOf, oneSize, fourSizes, sizes, sizesList, stepIn, stepOf, limitsOf}
 use Rattle.sheet.specs.Few.{AtMost, Unasked, Alone}
 
 -- ---- the chambers
@@ -66,7 +66,7 @@ adds-none (Between few many) = ap₂ Between (omega arith) (omega arith)
 adds-none NoSet = refl
 
 -- the sums over four chambers, from the last on
-pub four-sums : (us : List ℕ) (s : ChamberLimits) → length us ≡ 4
+pub four-sums : (us : List ℕ) (s : ChamberLimits) → length us ≡ chamberCount
     → plus (sizesOf (partOf (chamber 0 (getD us 0 0)) s)) (plus (sizesOf (partOf (chamber 1 (getD us 1 0)) s)) (plus (sizesOf (partOf (chamber 2 (getD us 2 0)) s)) (sizesOf (partOf (chamber 3 (getD us 3 0)) s))))
     ≡ partSizes (numbered 0 us) s
 unfolding numbered partSizes
@@ -98,7 +98,7 @@ plus-at-most i j (Between few many) (Between fewer more) m n = (omega (arith, m 
 -- ---- one chamber alone
 
 -- where the others are empty and asked for none, its sizes are those of all
-pub alone-sums : (us : List ℕ) (x : ChamberStep) → length us ≡ 4 → Alone us x
+pub alone-sums : (us : List ℕ) (x : ChamberStep) → length us ≡ chamberCount → Alone us x
     → sizesOf (partOf (chamber 0 (getD us 0 0)) (limitsOf x)) ≡ partSizes (numbered 0 us) (limitsOf x)
 alone-sums us x four a =
     let s = limitsOf x in

@@ -17,12 +17,12 @@ ghost use Rattle.chambers.specs.Chambers.{chamber, partOf, partsOf};
 ghost use Rattle.plans.specs.Rows.{rowSize, rowsOf};
 ghost use Rattle.plans.specs.Switch.{sized};
 ghost use Rattle.format.specs.Chain.{Inside, stepsFrom};
-ghost use Rattle.format.specs.Format.{isFirst, limitsOf};
+ghost use Rattle.format.specs.Format.{chamberCount, isFirst, limitsOf};
 
 // What the planner is given of a step in chamber number c, which has these units: its part of the step, with the sizes of its feasible sets in the place of its two
 // numbers.
 fn sized_part(x: ChamberStep, c: usize, units: u64) -> Limits
-    requires { ⌜ c < 4 ⌝ }
+    requires { ⌜ c < chamberCount ⌝ }
     ensures { λ r. ⌜ r ≡ sized (partOf (chamber c units) (limitsOf x)) ⌝ }
 {
     let least = x.least;
@@ -60,7 +60,7 @@ fn put_row(x: Limits, rows: &mut [u64], at: usize)
 fn decode_by(s: &[u8], first: bool, n: usize, c: usize, units: u64, rows: &mut [u64])
     requires { ⌜ first ≡ isFirst (now s) ⌝ }
     requires { ⌜ Inside (now s) 0 n ⌝ }
-    requires { ⌜ c < 4 ⌝ }
+    requires { ⌜ c < chamberCount ⌝ }
     requires { ⌜ rowSize * n ≤ length (now rows) ⌝ }
     ensures { λ _.
         ⌜
@@ -84,7 +84,7 @@ fn decode_by(s: &[u8], first: bool, n: usize, c: usize, units: u64, rows: &mut [
 // The same, where each edition has its own code.
 pub fn decode(s: &[u8], n: usize, c: usize, units: u64, rows: &mut [u64])
     requires { ⌜ Inside (now s) 0 n ⌝ }
-    requires { ⌜ c < 4 ⌝ }
+    requires { ⌜ c < chamberCount ⌝ }
     requires { ⌜ rowSize * n ≤ length (now rows) ⌝ }
     ensures { λ _.
         ⌜

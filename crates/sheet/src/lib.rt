@@ -46,10 +46,12 @@ impl<'a> Sheet<'a> {
     pub const RECORD_SIZE: usize = 24;
 
     pub const CHAMBER_RECORD_SIZE: usize = 32;
-    // The most units and the most records.
+    // The most units and the most records, and how many chambers there are.
     pub const UNIT_LIMIT: u64 = 64;
 
     pub const RECORD_LIMIT: usize = 256;
+
+    pub const CHAMBERS: usize = 4;
     // Where the fields of the header lie.
     pub const EDITION_AT: usize = 4;
 

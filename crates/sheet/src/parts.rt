@@ -1,4 +1,5 @@
 // The chambers of a sheet, and what a step asks of them.
+use super::Sheet;
 use format::ChamberSizes;
 use format::ChamberStep;
 use units::Sizes;
@@ -11,13 +12,13 @@ ghost use mathlib.Core.Path.{_≡_};
 ghost use mathlib.Core.Bool.{true};
 ghost use Prim.Native.Nat.{_+_, _≤_, _<_};
 ghost use Rattle.chambers.specs.Chambers.{chamber, unitsFrom, dealt, numbered, sum, partOf, plus, sizesIn};
-ghost use Rattle.format.specs.Format.{unitLimit, sizesList, limitsOf};
+ghost use Rattle.format.specs.Format.{unitLimit, chamberCount, sizesList, limitsOf};
 ghost use Rattle.plans.specs.Switch.{sizesOf};
 ghost use Rattle.sheet.specs.Few.{AtMost, Alone};
 
 // The units of each chamber, as sets.
 pub struct Chambers {
-    pub units: [u64; 4],
+    pub units: [u64; Sheet::CHAMBERS],
 }
 
 // The k units from `first` on.
@@ -48,7 +49,7 @@ pub fn deal(z: ChamberSizes) -> Chambers
 
 // The sizes of what a step asks of chamber number c, which has these units. Of an empty chamber nothing is counted.
 pub fn part_sizes(x: ChamberStep, c: usize, units: u64) -> Sizes
-    requires { ⌜ c < 4 ⌝ }
+    requires { ⌜ c < chamberCount ⌝ }
     ensures { λ r. ⌜ r ≡ sizesOf (partOf (chamber c units) (limitsOf x)) ⌝ }
     ensures { λ r. ⌜ AtMost 64 r ⌝ }
 {

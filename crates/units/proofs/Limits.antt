@@ -13,6 +13,12 @@ use Rattle.units.specs.declared.Sizes.{Sizes}
 use Rattle.units.specs.declared.Sizes.the-variants.{Between, NoSet}
 use Rattle.units.proofs.Sets.{insert-subset, size-insert, size-mono, subset-holds, subset-insert, subset-test, unit-outside}
 
+-- two tests that hold in the same cases are the same
+pub same-test : (a b : Bool) → (a ≡ true → b ≡ true) → (b ≡ true → a ≡ true) → a ≡ b
+same-test true b f g = sym (f refl)
+same-test false true f g = g refl
+same-test false false f g = refl
+
 -- a set between two others, with j units more than the lower one
 between : (j lower upper : ℕ) → Subset lower upper → size lower + j ≤ size upper
     → (x : ℕ) × (Subset lower x × (Subset x upper × (size x ≡ size lower + j)))

@@ -3,7 +3,8 @@
 use Prim.Native.Nat.{ℕ, suc, _-_, _≤_, _<_}
 use Rattle.campaign.proofs.Decoded.{units-dealt, few-dealt}
 use Rattle.campaign.proofs.Planned.{Made, made-begun, made-on, made-fits, made-done}
-use Rattle.campaign.specs.Benches.{chamberCount, unitsOn, chamberOn, DecodedIn}
+use Rattle.campaign.specs.Benches.{unitsOn, chamberOn, DecodedIn}
+use Rattle.format.specs.Format.{chamberCount}
 use denote.Ref.{now}
 use lib.ListN.{length, getD, replicate}
 use lib.Seq.{sets}

@@ -1,7 +1,7 @@
 -- `drawing::draw_all` meets its contract. The loop's invariant is `Drawn` for both outputs: what was joined so far,
 -- with the chambers still to come, is all.
 use Prim.Native.Nat.{ℕ, _-_, _≤_}
-use Rattle.campaign.specs.Benches.{chamberCount}
+use Rattle.format.specs.Format.{chamberCount}
 use Rattle.promises.proofs.Read.{bound-is}
 use Rattle.promises.specs.Chart.{onWords, offWords}
 use Rattle.drawing.proofs.Chambers.{Drawn, drawn-begun, drawn-on, drawn-done}

@@ -1,25 +1,18 @@
--- `campaign::check::count_fits` meets its contract: of a chamber without units none is on.
-use Prim.Native.Nat.{ℕ, _≤_, _<_}
-use Rattle.campaign.proofs.Checking.{none-counted}
-use Rattle.chambers.specs.Chambers.{chamber, countFits}
+-- `campaign::check::count_fits` meets its contract: the count is one of the sizes of the chamber's part, or there is none.
+use Rattle.campaign.proofs.Checking.{counted-by}
+use Rattle.chambers.specs.Chambers.{chamber, sizeIn}
 use Rattle.format.specs.Format.{limitsOf}
-use Rattle.units.specs.Sets.{intersection, size}
-use borrow.Author.Tests.{le-leb, lt-leb}
-use lib.Dec.{leb}
-use lib.ListN.{getD}
-use mathlib.Core.Path.{sym, ap, _∙_}
-use native.Mathlib.Omega.{arith}
+use Rattle.units.specs.Sets.{size}
+use mathlib.Core.Path.{refl, sym, ap, _∙_}
 use borrow.Author.Needs.{needs}
 use Rattle.campaign.proofs.check.count_fits.Statement.{statement}
 use Rattle.campaign.proofs.check.count_fits.Tie as tie
 
-array-read-result : tie.Need-array-read-result
-array-read-result c = search needs
+part-sizes-requires : tie.Need-part-sizes-requires
+part-sizes-requires c κs = search needs
 
-returns : tie.Need-returns
-returns c =
-    let a = c .before .before .before .args in
-    none-counted (limitsOf (a .x)) (a .c) (a .set) ∙ ap (λ (u : ℕ). countFits (chamber (a .c) u) (limitsOf (a .x)) (a .set)) (sym (c .if1 .taken))
+enum-known-few : tie.Need-enum-known-few
+enum-known-few c = search needs
 
 intersection-requires : tie.Need-intersection-requires
 intersection-requires c κs = search needs
@@ -27,43 +20,39 @@ intersection-requires c κs = search needs
 size-requires : tie.Need-size-requires
 size-requires c κs = search needs
 
-array-read-if2 : tie.Need-array-read-if2
-array-read-if2 c = search needs
+lies-between-requires : tie.Need-lies-between-requires
+lies-between-requires c κs = search needs
 
-cast-if2 : tie.Need-cast-if2
-cast-if2 c = search needs
+enum-told : tie.Need-enum-told
+enum-told c = search needs
+
+returns : tie.Need-returns
+returns c =
+    let k = c .before .before .before .before .before .before in
+    let a = k .before .args in
+    let pre = k .before .pre in
+    let found = sym (c .before .before .before .before .few .given .1) ∙ k .part-sizes .ensures .0 in
+    let many = c .before .size .ensures ∙ ap size (c .before .before .intersection .ensures) in
+    c .lies-between .ensures ∙ counted-by (chamber (a .c) (a .units)) (limitsOf (a .x)) (a .set) (pre .1 .0) (pre .1 .1) many found
 
 returns-2 : tie.Need-returns-2
 returns-2 c =
-    let a = c .before .before .before .before .before .before .args in
-    let many = c .before .size .ensures ∙ ap size (c .before .before .intersection .ensures) in
-    let few : size (intersection (a .set) (a .units)) < getD (a .x .least) (a .c) 0 = omega (arith, many, c .if2 .taken) in
-    simp (lt-leb _ _ few)
-
-array-read-result-2 : tie.Need-array-read-result-2
-array-read-result-2 c = search needs
-
-cast-result : tie.Need-cast-result
-cast-result c = search needs
-
-returns-3 : tie.Need-returns-3
-returns-3 c =
-    let a = c .before .before .before .before .before .before .args in
-    let many = c .before .size .ensures ∙ ap size (c .before .before .intersection .ensures) in
-    let enough : getD (a .x .least) (a .c) 0 ≤ size (intersection (a .set) (a .units)) = omega (arith, many, c .if2 .left) in
-    simp (le-leb _ _ enough) (ap (λ (k : ℕ). leb k (getD (a .x .greatest) (a .c) 0)) many)
+    let k = c .before .before in
+    let a = k .before .args in
+    let pre = k .before .pre in
+    let here = chamber (a .c) (a .units) in
+    let found = sym (c .enum-told .given .1) ∙ k .part-sizes .ensures .0 in
+    counted-by here (limitsOf (a .x)) (a .set) {k = sizeIn here (a .set)} (pre .1 .0) (pre .1 .1) refl found
 
 pub count-fits-spec : {M : Type 1} → statement M
 count-fits-spec =
     tie.close
     (tie.spec
-    array-read-result
-    returns
+    part-sizes-requires
+    enum-known-few
     intersection-requires
     size-requires
-    array-read-if2
-    cast-if2
-    returns-2
-    array-read-result-2
-    cast-result
-    returns-3)
+    lies-between-requires
+    enum-told
+    returns
+    returns-2)

@@ -22,7 +22,10 @@ returns-2 c =
     simp (sym (c .before .before .before .is-subset .ensures) ∙ not-false _ (c .before .before .if1 .left), sym (c .before .is-subset2 .ensures) ∙ not-true _ (c .if2 .taken))
 
 counts-fit-requires : tie.Need-counts-fit-requires
-counts-fit-requires c κs = search needs
+counts-fit-requires c κs = (
+  sym (c .before .before .before .is-subset .ensures) ∙ not-false _ (c .before .before .if1 .left),
+  sym (c .before .is-subset2 .ensures) ∙ not-false _ (c .if2 .left),
+)
 
 returns-3 : tie.Need-returns-3
 unfolding fits
