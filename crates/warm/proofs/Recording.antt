@@ -11,7 +11,7 @@ use lib.ListN.{length, getD, take, drop, length-take, drop-of-length-le}
 use lib.Seq.{sets, length-sets, sets-eq, drop-cons, getD-take, take-length}
 use Rattle.format.specs.declared.Step.{Step}
 use Rattle.format.specs.Answer.{Answer, Refused, Given}
-use Rattle.format.specs.Format.{recordSize, recordLimit, recordOffset, sheetLength}
+use Rattle.format.specs.Format.{headerSize, recordSize, recordLimit, recordOffset, sheetLength}
 use Rattle.format.specs.Numbers.{bytesOf}
 use Rattle.format.specs.Writing.{headerBytes, recordBytes, linkIn, recordsAfter, sheetOf}
 use Rattle.format.proofs.Answers.{refused-whatever, all-passed, given-same, unless-given}
@@ -60,7 +60,7 @@ module _ (d bound start : ℕ) (xs : List Step) (ys : List ℕ) {r : Written} {z
   found = lengthAnswer d start n (length ys)
 
   abbrev m : ℕ
-  m = r .length / recordSize true - 1
+  m = (r .length - headerSize) / recordSize true
 
   abbrev AsPromised : Type 0
   AsPromised = Promised d bound start xs ys r zs m
@@ -71,7 +71,7 @@ module _ (d bound start : ℕ) (xs : List Step) (ys : List ℕ) {r : Written} {z
       let b = e ∙ ap (begun header ys) a in
       let reply : r ≡ refusedWritten k p = ap (λ (y : Written × List ℕ). y .0) b in
       let list : zs ≡ ys = ap (λ (y : Written × List ℕ). y .1) b in
-      let none : m ≡ 0 = ap (λ (w : Written). w .length / recordSize true - 1) reply in (
+      let none : m ≡ 0 = ap (λ (w : Written). (w .length - headerSize) / recordSize true) reply in (
         record { few = omega (arith, none); small = omega (arith, none); room = λ h. absurd (omega (arith, none)); same = ap length list },
         ap₂ {C = Written × List ℕ} (λ w l. (w, l)) reply (ap (λ (k : ℕ). recorded k xs zs) none ∙ list)
             ∙ ap (wrote ys) (refused-whatever (writeRefusals d start n (length ys)) (sheetLength true n) (sym a) (Given sheet)),

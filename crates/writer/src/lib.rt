@@ -14,7 +14,7 @@ ghost use mathlib.Core.Path.{_≡_};
 ghost use mathlib.Core.Bool.{true};
 ghost use Prim.Native.Nat.{_-_, _/_};
 ghost use lib.ListN.{length};
-ghost use Rattle.format.specs.Format.{recordSize};
+ghost use Rattle.format.specs.Format.{headerSize, recordSize};
 ghost use Rattle.format.specs.Writing.{headerBytes, linkIn};
 ghost use Rattle.writer.specs.Begun.{lengthAnswer, replied, begun};
 
@@ -56,13 +56,13 @@ pub fn begin_sheet(units: u8, bound: u16, start: u64, n: usize, out: &mut [u8]) 
     reply
 }
 
-// How many records a sheet of that length has, in edition 1; 0 where nothing is written.
+// How many records a sheet of that length has after its header, in edition 1; 0 where nothing is written.
 pub fn records_in(length: u32) -> usize
-    ensures { λ r. ⌜ r ≡ length / recordSize true - 1 ⌝ }
+    ensures { λ r. ⌜ r ≡ (length - headerSize) / recordSize true ⌝ }
 {
-    let parts = length as usize / Sheet::RECORD_SIZE;
-    if parts == 0 {
+    let bytes = length as usize;
+    if bytes < Sheet::HEADER_SIZE {
         return 0;
     }
-    parts - 1
+    (bytes - Sheet::HEADER_SIZE) / Sheet::RECORD_SIZE
 }

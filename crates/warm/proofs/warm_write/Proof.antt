@@ -50,7 +50,7 @@ use denote.Triple.Spec.{Meets, tripleOf}
 use denote.Triple.Table.{entered, cited}
 use denote.Triple.Walked.{says, Stays, stay-none, stay-none-slice, stay-slice, walkOf, Walks, ends-at, walked, goes-none, goes-none-slice, goes-slice, walk-meets}
 use Rattle.format.specs.declared.Step.{Step}
-use Rattle.format.specs.Format.{recordSize, recordLimit, sheetLength}
+use Rattle.format.specs.Format.{headerSize, recordSize, recordLimit, sheetLength}
 use Rattle.format.proofs.Step as T
 use Rattle.format.proofs.Step.Laws as T′
 use Rattle.promises.specs.declared.Written.{Written}
@@ -187,7 +187,7 @@ module _ {M : Type 1} (𝓤 : URA M) (H : Heap 𝓤) (A : Atoms 𝓤) (W : Given
   w x = only (LL.vals T.the-type T′.the-laws x)
 
   -- what follows from what `begin_sheet` ensures, of the number m that `records_in` gives
-  promised-at : (r : Written) (zs : List ℕ) (m : ℕ) → Begun d bnd st xs ys r zs → m ≡ r .length / recordSize true - 1 → Promised d bnd st xs ys r zs m
+  promised-at : (r : Written) (zs : List ℕ) (m : ℕ) → Begun d bnd st xs ys r zs → m ≡ (r .length - headerSize) / recordSize true → Promised d bnd st xs ys r zs m
   promised-at r zs m e k = subst (Promised d bnd st xs ys r zs) (sym k) (promised d bnd st xs ys e)
 
   module _ (l₀ l₁ l₂ l₃ l₄ l₅ l₆ l₇ l₈ l₉ l₁₀ l₁₁ l₁₂ l₁₃ l₁₄ l₁₅ l₁₆ l₁₇ l₁₈ l₁₉ : ℕ) where
@@ -313,8 +313,8 @@ module _ {M : Type 1} (𝓤 : URA M) (H : Heap 𝓤) (A : Atoms 𝓤) (W : Given
     goes-on r zs e is r-fits =
         use0 W (raw (In 𝓤 H A mem run .pre (to-in r))) (goes-in r r-fits) $
         calls-at ! (fmOf 𝓤 H (W .laws) 𝓣) (In 𝓤 H A mem run) ins (to-in r) (and-then ! (load ! (from ! (fld ! {d = 8} refl (stop !))) (look-in ! 31 (sub ! 2 refl (whole !)))) (no-more !)) (λ u.
-        use1 W (later (some (λ (m : ℕ). (‵ ftrue ⊛ ‵ (usize .own m (u ∷ []))) ⊛ some (λ (vs : Unit {0} × Unit {0}). ‵ (fsep ftrue ftrue) ⊛ raw (fact 𝓤 (m ≡ r .length / recordSize true - 1)))))) (id⊢ 𝓤 _) $ await ! tt $ pick ! (λ m.
-        split ! $ move ! (1 ∷ []) $ pick ! (λ vs. split ! $ let-go ! $ heard ! (m ≡ r .length / recordSize true - 1) (λ k. split ! $ let-go ! $ facts ! usize (Is usize) (shows 𝓤 H A usize) m (u ∷ []) (λ im.
+        use1 W (later (some (λ (m : ℕ). (‵ ftrue ⊛ ‵ (usize .own m (u ∷ []))) ⊛ some (λ (vs : Unit {0} × Unit {0}). ‵ (fsep ftrue ftrue) ⊛ raw (fact 𝓤 (m ≡ (r .length - headerSize) / recordSize true)))))) (id⊢ 𝓤 _) $ await ! tt $ pick ! (λ m.
+        split ! $ move ! (1 ∷ []) $ pick ! (λ vs. split ! $ let-go ! $ heard ! (m ≡ (r .length - headerSize) / recordSize true) (λ k. split ! $ let-go ! $ facts ! usize (Is usize) (shows 𝓤 H A usize) m (u ∷ []) (λ im.
         land ! (from ! (stop !)) (init ! 28 refl (uint-lawful 𝓤 H A W w64 .typed m (u ∷ []) im .0)) $ rewrite ! 28 (λ (y : Val). ‵ (fat fullShare word l₇ 0 y)) (ap only (im .0)) refl $
         assigns ! (of-opd ! (lit ! tt)) (from ! (stop !)) (init ! 26 refl (tt, record { fits = lit< tt })) $ move ! (2 ∷ 3 ∷ 1 ∷ 0 ∷ []) $
         let g = promised-at r zs m e k in
