@@ -1,6 +1,7 @@
 /*
- * Converts the campaign sheet on standard input to edition 1 or 2, and writes it to standard output. A sheet that is refused gets one line with the
- * cause, on standard error, and status 1; a wrong call, an input that cannot be read or an output that cannot be written gets status 2.
+ * Converts the campaign sheet on standard input to edition 1 or 2, and writes it to standard output. A sheet that is
+ * refused gets one line with the cause, on standard error, and status 1; a wrong call, an input that cannot be read or
+ * an output that cannot be written gets status 2.
  *
  *     rt staticlib warm
  *     mkdir -p target/c

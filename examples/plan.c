@@ -1,6 +1,7 @@
 /*
- * Prints the plan of the campaign sheet on standard input, and in each step the units that could be the other way round within the bound. A sheet
- * that is refused gets one line with the cause, on standard error, and status 1; a wrong call or an input that cannot be read gets status 2.
+ * Prints the plan of the campaign sheet on standard input, and in each step the units that could be the other way round
+ * within the bound. A sheet that is refused gets one line with the cause, on standard error, and status 1; a wrong call
+ * or an input that cannot be read gets status 2.
  *
  *     rt staticlib warm
  *     mkdir -p target/c

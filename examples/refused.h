@@ -7,7 +7,8 @@
 #include <inttypes.h>
 #include <stdio.h>
 
-/* The line of a refusal, as in "refused 5 at record 4: the next record is already on the chain". Gives the status of the program, 1. */
+/* The line of a refusal, as in "refused 5 at record 4: the next record is already on the chain". Gives the status of
+   the program, 1. */
 static int refused(uint32_t number, uint32_t place)
 {
     fprintf(stderr, "refused %" PRIu32, number);

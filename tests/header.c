@@ -1,7 +1,8 @@
 /*
- * Calls the seven entries from C as include/warm.h declares them, on sheets of both editions. Each buffer ends where memory that may not be touched
- * begins, so that a read or a write beyond it ends the program. What each call must reply is written out by hand, but for examples/four_runs.sheet,
- * which comes on standard input. Ends with status 1 at the first difference.
+ * Calls the seven entries from C as include/warm.h declares them, on sheets of both editions. Each buffer ends where
+ * memory that may not be touched begins, so that a read or a write beyond it ends the program. What each call must
+ * reply is written out by hand, but for examples/four_runs.sheet, which comes on standard input. Ends with status 1 at
+ * the first difference.
  */
 #define _DEFAULT_SOURCE
 #include "warm.h"
@@ -64,7 +65,7 @@ static void put_header(uint8_t *sheet, unsigned edition, unsigned units, unsigne
     put(sheet + 10, 2, bound);
 }
 
-/* Four runs that need unit 0, 1, 2 and 0 again, two of three units on at the most; the tag of run j is j. */
+/* Four runs that need unit 0, 1, 2 and 0 again, at most two of three units on; the tag of run j is j. */
 static uint8_t *four_runs(unsigned bound)
 {
     static const uint64_t lower[4] = { 1, 2, 4, 1 };
@@ -80,8 +81,8 @@ static uint8_t *four_runs(unsigned bound)
     return sheet;
 }
 
-/* In edition 2 the same in chamber 1, and in chamber 3 two units of which just one must be on. Chambers 2 and 4 are empty; greatest numbers of theirs
-   play no part. */
+/* In edition 2 the same in chamber 1, and in chamber 3 two units of which exactly one must be on. Chambers 2 and 4 are
+   empty; greatest numbers of theirs play no part. */
 static uint8_t *two_chambers(unsigned bound)
 {
     static const uint64_t lower[4] = { 1, 2, 4, 1 };
@@ -100,7 +101,8 @@ static uint8_t *two_chambers(unsigned bound)
     return sheet;
 }
 
-/* What these two must give: four_runs at place 0, two_chambers at place 1. The other plan has one warm-up more than the fewest. */
+/* What these two must give: four_runs at place 0, two_chambers at place 1. The other plan has one warm-up more than the
+   fewest. */
 static const struct {
     uint8_t *(*sheet)(unsigned bound);
     size_t length;
@@ -338,12 +340,13 @@ static void write_and_read(void)
             "a step that was read back");
     }
 
-    /* a step that no set meets, or with a unit that the sheet has not, is written all the same, and the readers refuse it */
+    /* a step that no set meets, or with a unit that the sheet does not have, is written all the same, and the readers
+       refuse it */
     steps[99].greatest = 0;
     must(wrote(warm_write(64, 0, 0, steps, WARM_STEPS, out, LONGEST), 0, 0, LONGEST), "a step that no set meets");
     must(is(warm_plan(out, LONGEST, NULL, 0), 7, 100, 0, 0), "the refusal of a step that no set meets");
-    must(wrote(warm_write(63, 0, 0, steps, WARM_STEPS, out, LONGEST), 0, 0, LONGEST), "a unit that the sheet has not");
-    must(is(warm_plan(out, LONGEST, NULL, 0), 6, 1, 0, 0), "the refusal of a unit that the sheet has not");
+    must(wrote(warm_write(63, 0, 0, steps, WARM_STEPS, out, LONGEST), 0, 0, LONGEST), "a unit that the sheet does not have");
+    must(is(warm_plan(out, LONGEST, NULL, 0), 6, 1, 0, 0), "the refusal of a unit that the sheet does not have");
 }
 
 /* ---- sheets that are converted */
@@ -360,8 +363,8 @@ static uint8_t *bytes_of(const char *digits)
     return bytes;
 }
 
-/* 64 units and three records, of which the first is unused and the chain goes from the third to the second: in edition 1, the same in edition 2, and
-   in edition 2 with other bytes where edition 1 has no place for them. */
+/* 64 units and three records, of which the first is unused and the chain goes from the third to the second: in edition
+   1, the same in edition 2, and in edition 2 with other bytes where edition 1 has no place for them. */
 #define SETS "1817161514131211f8f7f6f5f4f3f2f1"
 #define UNUSED "a0a1a2a3a4a5a6a7a8a9aaabacadaeaf"
 static const char in_first[] = "5741524d0140030003007271000000008887868584838281"
@@ -420,7 +423,8 @@ static void convert_chambers(void)
     must(wrote(warm_to_edition_2(two_chambers(3), 152, out, 152), 0, 0, 152) && memcmp(out, two_chambers(3), 152) == 0, "two chambers");
 }
 
-/* As many records as a sheet can have, up and down again, into outputs that are just long enough. The plan stays, or its refusal. */
+/* As many records as a sheet can have, up and down again, into outputs that are just long enough. The plan stays, or
+   its refusal. */
 static void convert_longest(void)
 {
     enum { LONGEST = 24 * (WARM_STEPS + 1) };
@@ -477,7 +481,8 @@ static void nothing_lent(void)
     must(wrote(warm_write(1, 0, 0, NULL, 0, lent(24), 24), 0, 0, 24), "a sheet without a step");
 }
 
-/* Bytes of every length up to one above the longest sheet, all of one value, behind a header of an edition that asks for 256 records. */
+/* Bytes of every length up to one above the longest sheet, all of one value, after a header of an edition that asks for
+   256 records. */
 static void no_sheets(unsigned edition)
 {
     size_t whole = edition == 1 ? 6168 : 8216;

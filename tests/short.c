@@ -1,6 +1,7 @@
 /*
- * Calls each entry for the sheet on standard input with nothing lent to it: no output, and to the verdict no plan. Prints a line for each: its name,
- * the refusal and its place, and the cause in words. tests/refusals compares them with the table of docs/FORMAT.md.
+ * Calls each entry for the sheet on standard input with nothing lent to it: no output, and to the verdict no plan.
+ * Prints a line for each: its name, the refusal and its place, and the cause in words. tests/refusals compares them
+ * with the table of docs/FORMAT.md.
  */
 #include "warm.h"
 

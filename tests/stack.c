@@ -1,10 +1,11 @@
 /*
- * How deep a call of each entry goes on the stack, for the sheet on standard input, and of warm_write for as many steps as a sheet can have. What
- * warm_to_edition_1 is handed is the sheet in edition 2. Each call runs in a process of its own, in which it is the first that needs memcpy or
- * memset, on a stack that was painted before. The bytes count from the stack pointer before the call, so the return address is among them. Linked
- * with -z lazy, the dynamic linker binds memcpy and memset in that call, and its own frames count too. Prints each depth beside the limit of
- * include/warm.h. Ends with status 1 if one is above it, and with 2 if a call gives no full reply, or if warm_to_edition_1 does not give refusal 15
- * for a sheet that has a unit outside chamber 1.
+ * How deep a call of each entry goes on the stack, for the sheet on standard input, and of warm_write for as many steps
+ * as a sheet can have. What warm_to_edition_1 is handed is the sheet in edition 2. Each call runs in a process of its
+ * own, in which it is the first that needs memcpy or memset, on a stack that was painted before. The bytes count from
+ * the stack pointer before the call, so the return address is among them. Linked with -z lazy, the dynamic linker binds
+ * memcpy and memset in that call, and its own frames count too. Prints each depth beside the limit of include/warm.h.
+ * Ends with status 1 if one is above it, and with 2 if a call gives no full reply, or if warm_to_edition_1 does not
+ * give refusal 15 for a sheet that has a unit outside chamber 1.
  */
 #define _DEFAULT_SOURCE
 #include "warm.h"
@@ -20,7 +21,8 @@ enum { SIZE = 1 << 16, DEPTH = SIZE - 16, PAINT = 0xa5 };
 static uint8_t sheet[WARM_BYTES + 1], written[WARM_BYTES];
 static warm_chamber_step list[WARM_STEPS];
 static warm_step steps[WARM_STEPS];
-/* shared with the processes of the calls: the verdict needs the number of steps, and the sheet in edition 2 is converted back */
+/* shared with the processes of the calls: the verdict needs the number of steps, and the sheet in edition 2 is
+   converted back */
 static struct {
     warm_steps_reply summary;
     uint8_t raised[WARM_BYTES];
@@ -31,8 +33,8 @@ static uint64_t first_word;
 
 typedef void any_function(void);
 
-/* Calls a function with six words in registers and a seventh on the painted stack: the bytes of it that changed, from below the seventh word down to
-   the lowest. Keeps what the function returns in its first register. */
+/* Calls a function with six words in registers and a seventh on the painted stack: the bytes of it that changed, from
+   below the seventh word down to the lowest. Keeps what the function returns in its first register. */
 static size_t depth_of(any_function *entry, const uintptr_t *words)
 {
     uintptr_t rdi = words[0], rsi = words[1], rdx = words[2], rcx = words[3], rax;
@@ -58,15 +60,16 @@ static size_t depth_of(any_function *entry, const uintptr_t *words)
     return DEPTH - untouched;
 }
 
-/* Makes, measures and prints a call in a process of its own: 0, or 1 if it goes deeper than the limit, or 2 if it does not give that refusal, which
-   is 0 for a full reply. */
+/* Makes, measures and prints a call in a process of its own: 0, or 1 if it goes deeper than the limit, or 2 if it does
+   not give that refusal, which is 0 for a full reply. */
 static int measure(const char *name, any_function *entry, size_t limit, uint32_t expected, const uintptr_t *words)
 {
     int status = 0;
     pid_t child = fork();
     if (child == 0) {
         size_t depth = depth_of(entry, words);
-        /* a reply of up to 16 bytes comes in registers, the refusal in the lower half of the first; a larger one at a place that was handed in */
+        /* a reply of up to 16 bytes comes in registers, the refusal in the lower half of the first; a larger one at a
+           place that was handed in */
         uint32_t refusal = words[0] == (uintptr_t)&shared->summary ? shared->summary.refusal : (uint32_t)first_word;
         printf("%s: %zu bytes of stack, limit %zu\n", name, depth, limit);
         fflush(stdout);

@@ -1,5 +1,5 @@
-//! Finds libwarm.a and tells cargo to link it: in the folder `WARM_LIB_DIR` if that is set, else in target/staticlib of the repository. A
-//! relative `WARM_LIB_DIR` counts from the root of the repository.
+//! Finds libwarm.a and tells cargo to link it: in the folder `WARM_LIB_DIR` if that is set, else in target/staticlib of
+//! the repository. A relative `WARM_LIB_DIR` counts from the root of the repository.
 
 use std::env;
 use std::path::PathBuf;

@@ -2,8 +2,8 @@
 //!
 //!     cargo run --example convert -- 2 <../../examples/four_runs.sheet >../../target/raised.sheet
 //!
-//! A sheet that is refused gets one line with the cause, on standard error, and status 1; a wrong call, an input that cannot be read or an
-//! output that cannot be written gets status 2.
+//! A sheet that is refused gets one line with the cause, on standard error, and status 1; a wrong call, an input that
+//! cannot be read or an output that cannot be written gets status 2.
 
 use std::io::{stdin, stdout, Read, Write};
 use std::process::ExitCode;

@@ -2,8 +2,8 @@
 //!
 //!     cargo run --example plan -- ../../examples/four_runs.sheet
 //!
-//! A sheet that is refused gets one line with the cause, on standard error, and status 1; a wrong call or a file that cannot be read gets
-//! status 2.
+//! A sheet that is refused gets one line with the cause, on standard error, and status 1; a wrong call or a file that
+//! cannot be read gets status 2.
 
 use std::path::PathBuf;
 use std::process::ExitCode;

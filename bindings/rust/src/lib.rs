@@ -1,7 +1,8 @@
-//! Plans which units of a bench are on in each step of a test campaign, so that as few as possible have to be warmed up.
+//! Plans which units of a bench are on in each step of a test campaign, so that as few as possible have to be warmed
+//! up.
 //!
-//! The work is done by a library that is proved to meet its definition for any input: a call gives a full reply, or one exact refusal.
-//! This crate wraps its seven entries in safe functions over slices.
+//! The work is done by a library that is proved to meet its definition for any input: a call gives a full reply, or one
+//! exact refusal. This crate wraps its seven entries in safe functions over slices.
 //!
 //! | Function | What it gives |
 //! |---|---|
@@ -16,15 +17,16 @@
 //!
 //! # Units, sets, plans
 //!
-//! A *unit* has a number from 0 to 63, and lies in one of four *chambers*. A *set* of units is a `u64` in which unit `u` has weight 2^u. A
-//! *plan* has one set for each step. It is *feasible* if in every step its set includes the step's lower set, lies within its upper set, and
-//! has in each chamber a number of units from that chamber's least to its greatest number. Its *warm-ups* in a step are the units that are on
-//! there and were off in the step before; before the first step, the start set is on. Its *total* is the sum over all steps. A plan *meets the
-//! sheet* if it is feasible and its total is at most the bound.
+//! A *unit* has a number from 0 to 63, and lies in one of four *chambers*. A *set* of units is a `u64` in which unit
+//! `u` has weight 2^u. A *plan* has one set for each step. It is *feasible* if in every step its set includes the
+//! step's lower set, lies within its upper set, and has in each chamber a number of units from that chamber's least to
+//! its greatest number. Its *warm-ups* in a step are the units that are on there and were off in the step before;
+//! before the first step, the start set is on. Its *total* is the sum over all steps. A plan *meets the sheet* if it is
+//! feasible and its total is at most the bound.
 //!
-//! Some papers leave out the loading of the first step. With all units in the start set, the total of [`plan`] and [`chart`], or the count
-//! that comes with [`Refusal::Bound`], is what those papers count: the least that any feasible plan has from its second step on, or 0 if
-//! there is no step. For the steps of the [example](#example) below it is 1:
+//! Some papers leave out the loading of the first step. With all units in the start set, the total of [`plan`] and
+//! [`chart`], or the count that comes with [`Refusal::Bound`], is what those papers count: the least that any feasible
+//! plan has from its second step on, or 0 if there is no step. For the steps of the [example](#example) below it is 1:
 //!
 //! ```
 //! # let steps = [0b001, 0b010, 0b100, 0b001].map(|lower| warm::Step::new(lower, 0b111, 0, 2, 0));
@@ -34,15 +36,15 @@
 //! # Ok::<(), warm::Error>(())
 //! ```
 //!
-//! In a step that has a feasible set, the least size of one is the sum, over the chambers, of the greater of the least number and the number
-//! of the chamber's units in the lower set, the greatest size is that of the lesser of the greatest number and the number of its units in the
-//! upper set, and every number between is the size of one too. The repository's program `list_sizes` prints the two, how few and how many
-//! units may be on, for each step of a sheet.
+//! In a step that has a feasible set, the least size of one is the sum, over the chambers, of the greater of the least
+//! number and the number of the chamber's units in the lower set, the greatest size is that of the lesser of the
+//! greatest number and the number of its units in the upper set, and every number between is the size of one too. The
+//! repository's program `list_sizes` prints the two, how few and how many units may be on, for each step of a sheet.
 //!
 //! # The sheet
 //!
-//! A campaign sheet is a block of bytes: a header of 24 bytes, then r records, of 24 bytes each in edition 1 and of 32 in edition 2. Numbers
-//! are little-endian.
+//! A campaign sheet is a block of bytes: a header of 24 bytes, then r records, of 24 bytes each in edition 1 and of 32
+//! in edition 2. Numbers are little-endian.
 //!
 //! | Bytes of the header | What |
 //! |---|---|
@@ -65,39 +67,43 @@
 //! | none | 26 to 27 | zero |
 //! | 20 to 23 | 28 to 31 | a job tag, any value |
 //!
-//! Units are dealt out to the chambers in order, and a chamber may be empty; in edition 1 all are in chamber 1. Records are numbered from 1. The
-//! steps are the records from the first one along the next ones; a record that is never reached may hold anything. The repository's
-//! `docs/FORMAT.md` has the details, the choice among several best plans included.
+//! Units are dealt out to the chambers in order, and a chamber may be empty; in edition 1 all are in chamber 1. Records
+//! are numbered from 1. The steps are the records from the first one along the next ones; a record that is never
+//! reached may hold anything. The repository's `docs/FORMAT.md` has the details, the choice among several best plans
+//! included.
 //!
-//! [`to_edition_2`] converts a sheet of edition 1, and [`to_edition_1`] one of edition 2 whose units are all in chamber 1. Each record keeps its
-//! number, those that are never reached included, and plan, chart and verdicts stay the same.
+//! [`to_edition_2`] converts a sheet of edition 1, and [`to_edition_1`] one of edition 2 whose units are all in
+//! chamber 1. Each record keeps its number, those that are never reached included, and plan, chart and verdicts stay
+//! the same.
 //!
 //! # Replies, refusals and buffers
 //!
-//! Bytes need no check beforehand. A sheet that cannot be used, one that cannot be written, or an output that is too short gets
-//! [`Error::Refused`]: the first cause that holds, a [`Refusal`], and its [`Place`]. A refusal leaves every output exactly as it was.
+//! Bytes need no check beforehand. A sheet that cannot be used, one that cannot be written, or an output that is too
+//! short gets [`Error::Refused`]: the first cause that holds, a [`Refusal`], and its [`Place`]. A refusal leaves every
+//! output exactly as it was.
 //!
-//! A reply fills the first n places of each output, for n steps, and lends them back; it changes no place after them. An output of
-//! [`STEPS`] places is always enough; one that is too short is refused with the number that it takes. [`plan`] and [`chart`] read n by a call
-//! of [`step_count`], which takes less time than a plan. [`write()`] fills the first 24 · (n + 1) bytes of its output, [`to_edition_1`] the first
-//! 24 · (r + 1) and [`to_edition_2`] the first 32 · r + 24, for r records, and one of [`BYTES`] is always enough. With the feature `alloc`,
-//! `steps_vec`, `plan_vec`, `chart_vec`, `write_vec`, `to_edition_1_vec` and `to_edition_2_vec` need no output, and give what they fill in a
-//! `Vec`.
+//! A reply fills the first n places of each output, for n steps, and lends them back; it changes no place after them.
+//! An output of [`STEPS`] places is always enough; one that is too short is refused with the number that it takes.
+//! [`plan`] and [`chart`] read n by a call of [`step_count`], which takes less time than a plan. [`write()`] fills the
+//! first 24 · (n + 1) bytes of its output, [`to_edition_1`] the first 24 · (r + 1) and [`to_edition_2`] the first
+//! 32 · r + 24, for r records, and one of [`BYTES`] is always enough. With the feature `alloc`, `steps_vec`,
+//! `plan_vec`, `chart_vec`, `write_vec`, `to_edition_1_vec` and `to_edition_2_vec` need no output, and give what they
+//! fill in a `Vec`.
 //!
-//! No call but those six allocates, and none blocks, prints or keeps state, so threads may call at will. A call takes less than a
-//! millisecond on the largest sheets. The library needs at most 32,768 bytes of stack for a chart, and at most 13,824 for all else; what these
-//! limits leave out, the C header says under Stack.
+//! No call but those six allocates, and none blocks, prints or keeps state, so threads may call at will. A call takes
+//! less than a millisecond on the largest sheets. The library needs at most 32,768 bytes of stack for a chart, and at
+//! most 13,824 for all else; what these limits leave out, the C header says under Stack.
 //!
 //! # Linking
 //!
-//! `rt staticlib warm` in the repository writes `target/staticlib/libwarm.a`, for x86-64 Linux. The build script links it from there, or
-//! from the folder that the environment variable `WARM_LIB_DIR` names; a relative one counts from the root of the repository. The crate
-//! needs no `std`, but `memcpy` and `memset` of its host.
+//! `rt staticlib warm` in the repository writes `target/staticlib/libwarm.a`, for x86-64 Linux. The build script links
+//! it from there, or from the folder that the environment variable `WARM_LIB_DIR` names; a relative one counts from the
+//! root of the repository. The crate needs no `std`, but `memcpy` and `memset` of its host.
 //!
 //! # Example
 //!
-//! Three units, of which at most two may be on, and four steps that need unit 0, unit 1, unit 2 and unit 0 again. The bound is three
-//! warm-ups, and nothing is on at the start.
+//! Three units, of which at most two may be on, and four steps that need unit 0, unit 1, unit 2 and unit 0 again. The
+//! bound is three warm-ups, and nothing is on at the start.
 //!
 //! ```
 //! let steps = [0b001, 0b010, 0b100, 0b001].map(|lower| warm::Step::new(lower, 0b111, 0, 2, 0));
@@ -129,8 +135,8 @@ pub use refusal::{Error, Place, Refusal, UnknownRefusal};
 /// The version of the library's C interface that this crate is written for.
 pub const VERSION: u32 = 2;
 
-/// A sheet to try: three units, of which at most two may be on, and four steps that need unit 0, unit 1, unit 2 and unit 0 again. The bound
-/// is three warm-ups, and nothing is on at the start.
+/// A sheet to try: three units, of which at most two may be on, and four steps that need unit 0, unit 1, unit 2 and
+/// unit 0 again. The bound is three warm-ups, and nothing is on at the start.
 pub const FOUR_RUNS: [u8; 120] = *b"\
     WARM\x01\x03\x04\0\x01\0\x03\0\0\0\0\0\0\0\0\0\0\0\0\0\
     \x01\0\0\0\0\0\0\0\x07\0\0\0\0\0\0\0\0\x02\x02\0\0\0\0\0\
@@ -226,8 +232,9 @@ pub fn step_count(sheet: &[u8]) -> Result<usize, Error> {
 
 /// A plan with the fewest warm-ups, into the first places of `output`.
 ///
-/// The plan meets the sheet. Where several have as few warm-ups, it is always the same one of them, the one that FindSupport builds in each
-/// chamber: where nothing else tells two units of a chamber apart, it prefers the higher number.
+/// The plan meets the sheet. Where several have as few warm-ups, it is always the same one of them, the one that
+/// FindSupport builds in each chamber: where nothing else tells two units of a chamber apart, it prefers the higher
+/// number.
 ///
 /// ```
 /// let mut sets = [0; warm::STEPS];
@@ -252,11 +259,11 @@ pub fn plan<'a>(sheet: &[u8], output: &'a mut [u64]) -> Result<Plan<&'a [u64]>, 
     Ok(Plan { sets: first(output, step_count(sheet)?), total: reply.total })
 }
 
-/// For each step, over all plans that meet the sheet, the units that can be on into the first places of `on`, and those that can be off
-/// into the first places of `off`.
+/// For each step, over all plans that meet the sheet, the units that can be on into the first places of `on`, and those
+/// that can be off into the first places of `off`.
 ///
-/// A unit can be in both sets of a step. A unit that the sheet has not is in neither. Beyond that of a plan, the time is linear in the
-/// number of steps times that of units.
+/// A unit can be in both sets of a step. A unit that the sheet does not have is in neither. Beyond that of a plan, the
+/// time is linear in the number of steps times that of units.
 ///
 /// ```
 /// let (mut on, mut off) = ([0; warm::STEPS], [0; warm::STEPS]);
@@ -279,7 +286,7 @@ pub fn chart<'a>(sheet: &[u8], on: &'a mut [u64], off: &'a mut [u64]) -> Result<
 
 /// Whether a plan that was made elsewhere meets the sheet, and its total.
 ///
-/// The total is counted whether the plan is accepted or not; units that the sheet has not count like any other.
+/// The total is counted whether the plan is accepted or not; units that the sheet does not have count like any other.
 ///
 /// ```
 /// let verdict = warm::verdict(&warm::FOUR_RUNS, &[0b001, 0b010, 0b100, 0b001])?;
@@ -297,11 +304,13 @@ pub fn verdict(sheet: &[u8], plan: &[u64]) -> Result<Verdict, Error> {
     Ok(Verdict { accepted: reply.accepted != 0, total: reply.total })
 }
 
-/// The sheet of so many units, with this bound, this start set and these steps, into the first bytes of `output`. They are lent back.
+/// The sheet of so many units, with this bound, this start set and these steps, into the first bytes of `output`. They
+/// are lent back.
 ///
-/// The sheet is of edition 1: all units are in chamber 1. There must be 1 to 64 units, no unit from that number up in the start set, and at
-/// most 256 steps. The records are the steps in order, tags included. The steps themselves are not tested: the other functions may refuse the
-/// sheet with 6 or 7. If they do not, [`steps`] gives back what it was written from, each [`Step`] as a [`ChamberStep`].
+/// The sheet is of edition 1: all units are in chamber 1. There must be 1 to 64 units, no unit from that number up in
+/// the start set, and at most 256 steps. The records are the steps in order, tags included. The steps themselves are
+/// not tested: the other functions may refuse the sheet with 6 or 7. If they do not, [`steps`] gives back what it was
+/// written from, each [`Step`] as a [`ChamberStep`].
 ///
 /// ```
 /// let steps = [0b001, 0b010, 0b100, 0b001].map(|lower| warm::Step::new(lower, 0b111, 0, 2, 0));
@@ -324,9 +333,10 @@ pub fn write<'a>(units: u8, bound: u16, start: u64, steps: &[Step], output: &'a 
 
 /// A sheet in edition 1, into the first bytes of `output`. They are lent back.
 ///
-/// A sheet of edition 2 must have all of its units in chamber 1, whose numbers are kept. One of edition 1 is copied as it is. Each record keeps
-/// its number, and those that are never reached are converted like the others. The bound plays no part. [`plan`], [`chart`] and [`verdict`] say
-/// the same of the converted sheet, and so does [`steps`], but that the greatest numbers of chambers 2 to 4, which are empty, are 0.
+/// A sheet of edition 2 must have all of its units in chamber 1, whose numbers are kept. One of edition 1 is copied as
+/// it is. Each record keeps its number, and those that are never reached are converted like the others. The bound plays
+/// no part. [`plan`], [`chart`] and [`verdict`] say the same of the converted sheet, and so does [`steps`], except that
+/// the greatest numbers of chambers 2 to 4, which are empty, are 0.
 ///
 /// ```
 /// let (mut bytes, mut lowered) = ([0; warm::BYTES], [0; warm::BYTES]);
@@ -351,9 +361,10 @@ pub fn to_edition_1<'a>(sheet: &[u8], output: &'a mut [u8]) -> Result<&'a [u8], 
 
 /// A sheet in edition 2, into the first bytes of `output`. They are lent back.
 ///
-/// Of a sheet of edition 1, all units are then in chamber 1, and the numbers of the other chambers are 0. One of edition 2 is copied as it is.
-/// Each record keeps its number, and those that are never reached are converted like the others. The bound plays no part. [`steps`], [`plan`],
-/// [`chart`] and [`verdict`] say the same of the converted sheet, and [`to_edition_1`] gives back the bytes of a sheet that was of edition 1.
+/// Of a sheet of edition 1, all units are then in chamber 1, and the numbers of the other chambers are 0. One of
+/// edition 2 is copied as it is. Each record keeps its number, and those that are never reached are converted like the
+/// others. The bound plays no part. [`steps`], [`plan`], [`chart`] and [`verdict`] say the same of the converted sheet,
+/// and [`to_edition_1`] gives back the bytes of a sheet that was of edition 1.
 ///
 /// ```
 /// let (mut bytes, mut sets) = ([0; warm::BYTES], [0; warm::STEPS]);

@@ -2,7 +2,8 @@
 
 use core::fmt;
 
-/// The cause of a refusal: the first that holds. The repository's `docs/FORMAT.md` has the order in which causes are checked.
+/// The cause of a refusal: the first that holds. The repository's `docs/FORMAT.md` has the order in which causes are
+/// checked.
 #[derive(Clone, Copy, Debug, PartialEq, Eq, Hash)]
 #[repr(u32)]
 #[non_exhaustive]
@@ -11,27 +12,28 @@ pub enum Refusal {
     Length = 1,
     /// 2: the letters are not WARM, byte 0; or the edition is not 1 or 2, byte 4. [`Place::Byte`].
     Form = 2,
-    /// 3: the number of units is not 1 to 64, byte 5; or there are more than 256 records, byte 6; or bytes 12 to 15 are not zero in edition 1,
-    /// byte 12; or the start set has a unit that the sheet has not, byte 16; or the length is not that of the header and the records, byte 24.
-    /// [`Place::Byte`].
+    /// 3: the number of units is not 1 to 64, byte 5; or there are more than 256 records, byte 6; or bytes 12 to 15 are
+    /// not zero in edition 1, byte 12; or the start set has a unit that the sheet does not have, byte 16; or the length
+    /// is not that of the header and the records, byte 24. [`Place::Byte`].
     Header = 3,
-    /// 4: the number of the first or the next record is above the number of records. [`Place::Record`]: the one that holds it, 0 for the
-    /// header.
+    /// 4: the number of the first or the next record is above the number of records. [`Place::Record`]: the one that
+    /// holds it, 0 for the header.
     RecordNumber = 4,
     /// 5: the next record is already on the chain. [`Place::Record`]: the one that holds its number.
     Loop = 5,
-    /// 6: the upper set has a unit that the sheet has not. [`Place::Step`].
+    /// 6: the upper set has a unit that the sheet does not have. [`Place::Step`].
     UpperSet = 6,
     /// 7: no set of units is feasible in the step. [`Place::Step`].
     NoSet = 7,
-    /// 8: an output has fewer places than the reply fills. [`Place::Count`]: those places, one for each step, or for each byte of a converted
-    /// sheet.
+    /// 8: an output has fewer places than the reply fills. [`Place::Count`]: those places, one for each step, or for
+    /// each byte of a converted sheet.
     ShortOutput = 8,
     /// 9: the bound is below the fewest warm-ups. [`Place::Count`]: those warm-ups.
     Bound = 9,
     /// 10: the plan has more or fewer words than there are steps. [`Place::Count`]: the steps.
     PlanLength = 10,
-    /// 11: the number of units, the start set or the number of steps is outside the limits of a sheet. [`Place::Whole`].
+    /// 11: the number of units, the start set or the number of steps is outside the limits of a sheet.
+    /// [`Place::Whole`].
     Limits = 11,
     /// 12: the output is shorter than the sheet. [`Place::Count`]: the bytes of the sheet.
     NoRoom = 12,
@@ -129,7 +131,8 @@ impl Place {
     }
 }
 
-/// Why a call gives no full reply. As text it is one line, such as `refused 5 at record 4: the next record is already on the chain`.
+/// Why a call gives no full reply. As text it is one line, such as
+/// `refused 5 at record 4: the next record is already on the chain`.
 #[derive(Clone, Copy, Debug, PartialEq, Eq, Hash)]
 #[non_exhaustive]
 pub enum Error {
@@ -178,11 +181,11 @@ impl Error {
             (Refusal::Header, 5) => "the number of units is not 1 to 64",
             (Refusal::Header, 6) => "there are more than 256 records",
             (Refusal::Header, 12) => "bytes 12 to 15 are not zero in edition 1",
-            (Refusal::Header, 16) => "the start set has a unit that the sheet has not",
+            (Refusal::Header, 16) => "the start set has a unit that the sheet does not have",
             (Refusal::Header, 24) => "the length is not that of the header and the records",
             (Refusal::RecordNumber, _) => "the number of the first or the next record is above the number of records",
             (Refusal::Loop, _) => "the next record is already on the chain",
-            (Refusal::UpperSet, _) => "the upper set has a unit that the sheet has not",
+            (Refusal::UpperSet, _) => "the upper set has a unit that the sheet does not have",
             (Refusal::NoSet, _) => "no set of units is feasible in the step",
             (Refusal::ShortOutput, _) => "an output has fewer places than the reply fills",
             (Refusal::Bound, _) => "the bound is below the fewest warm-ups",

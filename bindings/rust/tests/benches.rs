@@ -250,7 +250,7 @@ fn chamber_sizes() {
 fn reserved_bytes() {
     for at in [26, 27] {
         let mut sheet = two_chambers().bytes();
-        // The third record, and there a unit that the sheet has not.
+        // The third record, and there a unit that the sheet does not have.
         sheet[88 + at] = 1;
         sheet[88 + 8] = 255;
         assert_eq!(planned(&sheet), refused(Refusal::ReservedBytes, 3));

@@ -1,6 +1,6 @@
-//! Outputs of all lengths: too short, just enough, longer. Refusal 8 for each output by itself, and which refusal comes first. What lies
-//! before, behind and, on a refusal, inside an output stays as it is: the judge looks at all of it on each call. Written and converted sheets have
-//! more of this in `written` and `converted`.
+//! Outputs of all lengths: too short, just enough, longer. Refusal 8 for each output by itself, and which refusal comes
+//! first. What lies before, after and, on a refusal, inside an output stays as it is: the judge looks at all of it on
+//! each call. Written and converted sheets have more of this in `written` and `converted`.
 
 mod common;
 mod reference;

@@ -1,6 +1,7 @@
-//! Sheets that the library converts, to either edition: byte for byte against the reference, on sheets by hand, drawn and damaged ones of both
-//! editions, with outputs of all lengths. A converted sheet is converted again, and must get the answers that it got before. What lies around an
-//! output and, on a refusal, inside it stays as it is: the judge looks at all of it on each call.
+//! Sheets that the library converts, to either edition: byte for byte against the reference, on sheets by hand, drawn
+//! and damaged ones of both editions, with outputs of all lengths. A converted sheet is converted again, and must get
+//! the answers that it got before. What lies around an output and, on a refusal, inside it stays as it is: the judge
+//! looks at all of it on each call.
 
 mod common;
 mod reference;
@@ -35,8 +36,8 @@ fn bytes(digits: &[&str]) -> Vec<u8> {
     (0..digits.len()).step_by(2).map(|i| u8::from_str_radix(&digits[i..i + 2], 16).unwrap()).collect()
 }
 
-/// Each byte of a header, of an unused record and of two steps: in edition 1; in edition 2, as it is converted; and in edition 2 with other bytes where
-/// edition 1 has no place for them.
+/// Each byte of a header, of an unused record and of two steps: in edition 1; in edition 2, as it is converted; and in
+/// edition 2 with other bytes where edition 1 has no place for them.
 #[test]
 fn numbers_by_hand() {
     let sets = "1817161514131211f8f7f6f5f4f3f2f1";
@@ -69,8 +70,8 @@ fn numbers_by_hand() {
     }
 }
 
-/// The edition and the chambers of a sheet, its records, the edition that is wanted, the bytes of the output, and what comes of it: the bytes of the
-/// converted sheet, or a refusal.
+/// The edition and the chambers of a sheet, its records, the edition that is wanted, the bytes of the output, and what
+/// comes of it: the bytes of the converted sheet, or a refusal.
 type Case = (u8, [usize; CHAMBERS], usize, u8, usize, Reply<usize>);
 
 const CASES: [Case; 36] = [
@@ -130,8 +131,8 @@ fn refusals_by_hand() {
     }
 }
 
-/// Converts a sheet of any bytes to both editions, into outputs that are too short, just enough and longer. What comes of it is converted again, and
-/// compared with the sheet.
+/// Converts a sheet of any bytes to both editions, into outputs that are too short, just enough and longer. What comes
+/// of it is converted again, and compared with the sheet.
 fn compare(judge: &mut Judge, sheet: &[u8], random: &mut Random) {
     let said = read(sheet);
     for edition in [1, 2] {
@@ -152,8 +153,8 @@ fn compare(judge: &mut Judge, sheet: &[u8], random: &mut Random) {
     }
 }
 
-/// Converting to the same edition again changes nothing. Going up and down gives a sheet of edition 1 back, and going down, up and down what going
-/// down gives. What going down and up gives is only counted.
+/// Converting to the same edition again changes nothing. Going up and down gives a sheet of edition 1 back, and going
+/// down, up and down what going down gives. What going down and up gives is only counted.
 fn compare_again(judge: &mut Judge, sheet: &[u8], converted: &[u8]) {
     let mut to = |sheet: &[u8], edition| judge.convert(sheet, &read(sheet), edition, BYTES).unwrap();
     let (own, wanted) = (sheet[4], converted[4]);
@@ -180,7 +181,8 @@ fn compare_again(judge: &mut Judge, sheet: &[u8], converted: &[u8]) {
     judge.tally.add(kind, 1);
 }
 
-/// The chain and all answers are those of the sheet, and so are verdicts; only, going down, the greatest numbers of chambers 2 to 4 are lost.
+/// The chain and all answers are those of the sheet, and so are verdicts; only, going down, the greatest numbers of
+/// chambers 2 to 4 are lost.
 fn compare_answers(judge: &mut Judge, sheet: &[u8], converted: &[u8], random: &mut Random) {
     let mut expected = answers(sheet);
     let mut said = read(sheet).unwrap();
@@ -209,7 +211,8 @@ fn compare_answers(judge: &mut Judge, sheet: &[u8], converted: &[u8], random: &m
     }
 }
 
-/// FindSupport's plan, whatever the bound; the same with a unit changed in a step; any words; a word fewer and a word more.
+/// FindSupport's plan, whatever the bound; the same with a unit changed in a step; any words; a word fewer and a word
+/// more.
 fn plans(sheet: &Sheet, random: &mut Random) -> Vec<Vec<u64>> {
     let support = find_support(sheet);
     let words: Vec<u64> = support.iter().map(|_| random.word()).collect();
@@ -236,7 +239,8 @@ fn count_lost(judge: &mut Judge, sheet: &[u8], said: &Sheet) {
     }
 }
 
-/// A sheet that passes the checks: any number of units, few steps and at times very many, no unused records, a few, or as many as there is room for.
+/// A sheet that passes the checks: any number of units, few steps and at times very many, no unused records, a few, or
+/// as many as there is room for.
 fn draw_sound(racks: Racks, random: &mut Random) -> Vec<u8> {
     let units = if random.one_in(4) { random.between(9, UNITS) } else { random.between(1, 8) };
     let rack = racks(units, random);

@@ -1,6 +1,6 @@
-//! Sheets of both editions with faults: directed ones with their numbers and places written by hand, pairs of them, and thousands drawn; and
-//! lengths of all kinds. All six entries that read a sheet against the reference. And sheets that differ in job tags and unused records only,
-//! which must get the same replies.
+//! Sheets of both editions with faults: directed ones with their numbers and places written by hand, pairs of them, and
+//! thousands drawn; and lengths of all kinds. All six entries that read a sheet against the reference. And sheets that
+//! differ in job tags and unused records only, which must get the same replies.
 
 mod common;
 mod reference;
@@ -92,7 +92,8 @@ const FAULTS: &[(Fault, Refusal)] = &[
     (Bytes(64, &[255, 255]), (7, 2)),
 ];
 
-/// The same for "Two chambers", of edition 2, whose records 1 to 4, too, are steps 1 to 4, and begin at bytes 24, 56, 88 and 120.
+/// The same for "Two chambers", of edition 2, whose records 1 to 4, too, are steps 1 to 4, and begin at bytes 24, 56,
+/// 88 and 120.
 const CHAMBER_FAULTS: &[(Fault, Refusal)] = &[
     (Length(0), (1, 0)),
     (Length(23), (1, 0)),

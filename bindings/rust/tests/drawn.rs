@@ -1,5 +1,5 @@
-//! Drawn sheets of both editions that pass the checks, at bounds below, at and above the fewest warm-ups: all six entries that read a sheet
-//! against the reference.
+//! Drawn sheets of both editions that pass the checks, at bounds below, at and above the fewest warm-ups: all six
+//! entries that read a sheet against the reference.
 
 mod common;
 mod reference;
@@ -91,7 +91,8 @@ fn compare_by(
     });
 }
 
-/// For sheets of any size: whole charts come from forced runs, all else from the flow; and so many cells are looked up in the flow as well.
+/// For sheets of any size: whole charts come from forced runs, all else from the flow; and so many cells are looked up
+/// in the flow as well.
 fn compare_large(judge: &mut Judge, draws: Draws, lookups: usize, size: impl Fn(&mut Random) -> (usize, usize)) {
     for_each_sheet(draws, size, |rack, mut sheet, random| {
         rack.count(&mut judge.tally);

@@ -1,6 +1,7 @@
-//! Faults put into drawn sheets of both editions and all sizes, whose chains run to and fro among unused records: each kind of fault by itself at
-//! each of its places, and two faults together, of which the earlier must be given. The refusal is known from how the sheet is made. The
-//! reference must give it, and so must all six entries that read a sheet.
+//! Faults put into drawn sheets of both editions and all sizes, whose chains run to and fro among unused records: each
+//! kind of fault by itself at each of its places, and two faults together, of which the earlier must be given. The
+//! refusal is known from how the sheet is made. The reference must give it, and so must all six entries that read a
+//! sheet.
 
 mod common;
 mod reference;
@@ -111,8 +112,8 @@ impl Fault {
         }
     }
 
-    /// Of two faults, the lesser is found first. Two of one link are alike, and so are two that leave no set in one step, and two at byte 12: only
-    /// one of them can be there.
+    /// Of two faults, the lesser is found first. Two of one link are alike, and so are two that leave no set in one
+    /// step, and two at byte 12: only one of them can be there.
     fn order(self) -> (Part, usize, Kind) {
         let kind = match self.kind {
             NotZero | OtherSizes | WrappedSizes | OtherEdition => NotZero,
@@ -132,8 +133,8 @@ struct Sound {
 }
 
 impl Sound {
-    /// Any number of units, and more often the two largest; few steps, and at times very many; no unused records, a few, or as many as there
-    /// is room for.
+    /// Any number of units, and more often the two largest; few steps, and at times very many; no unused records, a
+    /// few, or as many as there is room for.
     fn draw(racks: Racks, random: &mut Random) -> Sound {
         let any = random.between(1, UNITS);
         let units = random.pick(&[any, any, UNITS - 1, UNITS]);
@@ -299,7 +300,8 @@ fn put_link(bytes: &mut [u8], rack: Rack, record: usize, next: usize) {
     put_number(bytes, if record == 0 { 8 } else { rack.at(record) + rack.next() }, next);
 }
 
-/// The step with limits in one chamber that no set meets, for one reason alone. The limits in the others stay as they are.
+/// The step with limits in one chamber that no set meets, for one reason alone. The limits in the others stay as they
+/// are.
 fn without_set(kind: Kind, mut step: ChamberStep, rack: Rack, random: &mut Random) -> ChamberStep {
     let fitting: Vec<usize> = (0..CHAMBERS).filter(|&c| (rack.chambers[c] == 0) == (kind == LeastOfNone)).collect();
     let c = if rack.edition == 1 { 0 } else { random.pick(&fitting) };

@@ -1,6 +1,7 @@
-//! The count that leaves out the loading of the first step. The least number of warm-ups that a feasible plan has from its second step on is
-//! what plan and chart must report of the sheet with all units in its start set, as their total or as the place of refusal 9. On drawn sheets
-//! of few units and steps it is found from all plans, one by one, and on longer ones from all first sets.
+//! The count that leaves out the loading of the first step. The least number of warm-ups that a feasible plan has from
+//! its second step on is what plan and chart must report of the sheet with all units in its start set, as their total
+//! or as the place of refusal 9. On drawn sheets of few units and steps it is found from all plans, one by one, and on
+//! longer ones from all first sets.
 
 mod common;
 mod reference;
@@ -18,7 +19,8 @@ fn least_by_plans(campaign: &Campaign) -> u32 {
     all_plans(&campaign.sheet()).iter().map(later_total).min().unwrap()
 }
 
-/// The same, over all feasible sets of the first step: the fewest warm-ups of the later steps with that set on before them.
+/// The same, over all feasible sets of the first step: the fewest warm-ups of the later steps with that set on before
+/// them.
 fn least_by_first_sets(campaign: &Campaign) -> u32 {
     let Some((first, later)) = campaign.steps.split_first() else {
         return 0;

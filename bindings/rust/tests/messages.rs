@@ -25,7 +25,7 @@ fn lines() {
         (Refusal::Header, 5, "refused 3 at byte 5: the number of units is not 1 to 64"),
         (Refusal::Header, 6, "refused 3 at byte 6: there are more than 256 records"),
         (Refusal::Header, 12, "refused 3 at byte 12: bytes 12 to 15 are not zero in edition 1"),
-        (Refusal::Header, 16, "refused 3 at byte 16: the start set has a unit that the sheet has not"),
+        (Refusal::Header, 16, "refused 3 at byte 16: the start set has a unit that the sheet does not have"),
         (Refusal::Header, 24, "refused 3 at byte 24: the length is not that of the header and the records"),
         (
             Refusal::RecordNumber,
@@ -38,7 +38,7 @@ fn lines() {
             "refused 4 at record 7: the number of the first or the next record is above the number of records",
         ),
         (Refusal::Loop, 4, "refused 5 at record 4: the next record is already on the chain"),
-        (Refusal::UpperSet, 1, "refused 6 at step 1: the upper set has a unit that the sheet has not"),
+        (Refusal::UpperSet, 1, "refused 6 at step 1: the upper set has a unit that the sheet does not have"),
         (Refusal::NoSet, 256, "refused 7 at step 256: no set of units is feasible in the step"),
         (Refusal::ShortOutput, 4, "refused 8: an output has fewer places than the reply fills (4)"),
         (Refusal::Bound, 3, "refused 9: the bound is below the fewest warm-ups (3)"),

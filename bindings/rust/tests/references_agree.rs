@@ -1,5 +1,5 @@
-//! The parts of the reference against each other, for both editions: all sets, the flow and FindSupport give the same fewest warm-ups, and all
-//! sets, the flow and forced runs the same chart. The library is not called.
+//! The parts of the reference against each other, for both editions: all sets, the flow and FindSupport give the same
+//! fewest warm-ups, and all sets, the flow and forced runs the same chart. The library is not called.
 
 mod common;
 mod reference;
@@ -172,7 +172,8 @@ fn all_sets_and_all_plans_in_chambers() {
     Rack::require(&tally, 40);
 }
 
-/// The sizes of the steps as sums over the chambers, against all sets, and every number between is the size of a set, too.
+/// The sizes of the steps as sums over the chambers, against all sets, and every number between is the size of a set,
+/// too.
 #[test]
 fn sizes_and_all_sets_in_chambers() {
     let size = |_, random: &mut Random| (random.between(1, 8), random.between(1, 12));

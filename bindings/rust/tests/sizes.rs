@@ -1,6 +1,7 @@
-//! The program list_sizes on drawn sheets of both editions: how few and how many units may be on in each step, of few units against all sets,
-//! of many against the sums over the chambers. In half of the sheets one step has limits that are drawn freely; where no set is feasible in it,
-//! the program must refuse the sheet for that step. The bound is 0, which the program does not look at.
+//! The program list_sizes on drawn sheets of both editions: how few and how many units may be on in each step, of few
+//! units against all sets, of many against the sums over the chambers. In half of the sheets one step has limits that
+//! are drawn freely; where no set is feasible in it, the program must refuse the sheet for that step. The bound is 0,
+//! which the program does not look at.
 
 mod common;
 mod reference;

@@ -1,6 +1,6 @@
-//! Ties broken by other orders than the house rule. On drawn sheets of both editions, with an order drawn for each step, FindSupport's plan is
-//! feasible and has the total that the library reports, and the verdict accepts it; on sheets of few units this is also the least total found
-//! from all sets.
+//! Ties broken by other orders than the house rule. On drawn sheets of both editions, with an order drawn for each
+//! step, FindSupport's plan is feasible and has the total that the library reports, and the verdict accepts it; on
+//! sheets of few units this is also the least total found from all sets.
 
 mod common;
 mod reference;

@@ -1,5 +1,6 @@
-//! Verdicts on plans made elsewhere, for sheets of both editions: the plan that is handed out, any feasible plan at the bounds around its total,
-//! plans that break one limit in one step, in one chamber, units that the sheet has not, any words, and wrong lengths.
+//! Verdicts on plans made elsewhere, for sheets of both editions: the plan that is handed out, any feasible plan at the
+//! bounds around its total, plans that break one limit in one step, in one chamber, units that the sheet does not have,
+//! any words, and wrong lengths.
 
 mod common;
 mod reference;
@@ -32,8 +33,8 @@ fn any_plan(sheet: &Sheet, random: &mut Random) -> Vec<u64> {
     sheet.steps.iter().map(|step| any_set(sheet.chambers, step, random)).collect()
 }
 
-/// The sets of as many units as this one in which a unit that need not be on is replaced by one of another chamber that may be, and which are not
-/// feasible.
+/// The sets of as many units as this one in which a unit that need not be on is replaced by one of another chamber that
+/// may be, and which are not feasible.
 fn moved_sets(chambers: [usize; CHAMBERS], step: &ChamberStep, set: u64) -> Vec<u64> {
     let mut moved = Vec::new();
     for own in dealt(chambers) {
@@ -71,7 +72,7 @@ fn broken_sets(sheet: &Sheet, i: usize, set: u64, random: &mut Random) -> Vec<(&
         }
     }
     if units < 64 {
-        broken.push(("a unit that the sheet has not", set | random.some(1, !units_below(units))));
+        broken.push(("a unit that the sheet does not have", set | random.some(1, !units_below(units))));
     }
     let moved = moved_sets(chambers, step, set);
     if !moved.is_empty() {
@@ -114,7 +115,7 @@ fn compare(seed: u64, racks: Racks) -> Judge {
     let ways =
         ["a unit that must be on is off", "a unit that may not be on is on", "too few are on", "too many are on"];
     judge.tally.require(&ways.map(|way| (way, 200)));
-    judge.tally.require(&[("a unit that the sheet has not", 200)]);
+    judge.tally.require(&[("a unit that the sheet does not have", 200)]);
     judge
 }
 

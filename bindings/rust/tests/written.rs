@@ -1,6 +1,6 @@
-//! Sheets that the library writes: byte for byte against the tests' own writer, and read back by the library and by the reference. Limits,
-//! lengths of outputs, and which refusal comes first. What lies around an output and, on a refusal, inside it stays as it is: the judge looks
-//! at all of it on each call.
+//! Sheets that the library writes: byte for byte against the tests' own writer, and read back by the library and by the
+//! reference. Limits, lengths of outputs, and which refusal comes first. What lies around an output and, on a refusal,
+//! inside it stays as it is: the judge looks at all of it on each call.
 
 mod common;
 mod reference;
@@ -40,7 +40,8 @@ fn numbers_by_hand() {
     assert_eq!([1, 254, 255, 256].map(next), [(2, 0), (255, 0), (0, 1), (0, 0)]);
 }
 
-/// The number of units, the start set, the steps, the bytes of the output, and what comes of it: the bytes of the sheet, or a refusal.
+/// The number of units, the start set, the steps, the bytes of the output, and what comes of it: the bytes of the
+/// sheet, or a refusal.
 type Case = (u8, u64, usize, usize, Reply<usize>);
 
 const CASES: [Case; 22] = [

@@ -31,7 +31,7 @@ pub fn change_bytes(bytes: &mut [u8], random: &mut Random) {
     }
 }
 
-/// Records of garbage, tamed by and by so that each later check is reached.
+/// Records of garbage, tamed more and more so that each later check is reached.
 pub fn garbage_records(bytes: &mut [u8], random: &mut Random) {
     let (size, next_at, numbers) = if bytes[4] == 1 { (24, 18, 1) } else { (32, 24, CHAMBERS) };
     let records = (bytes.len() - 24) / size;

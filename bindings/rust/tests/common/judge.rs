@@ -1,4 +1,5 @@
-//! Calls the library with lent memory that lies inside larger buffers, and compares its reply and all of the buffers with the reference.
+//! Calls the library with lent memory that lies inside larger buffers, and compares its reply and all of the buffers
+//! with the reference.
 
 use super::random::Random;
 use super::sheets::Campaign;
@@ -124,7 +125,8 @@ impl Judge {
         }
     }
 
-    /// The chart, with outputs that are long enough. Gives what they hold then: the units that can be on, and those that can be off.
+    /// The chart, with outputs that are long enough. Gives what they hold then: the units that can be on, and those
+    /// that can be off.
     pub fn long_enough_chart(&mut self, sheet: &[u8], expected: &Replies) -> [Vec<u64>; 2] {
         let [on, off] = [0; 2].map(|_| self.enough(expected));
         self.chart(sheet, expected, on, off)
@@ -163,8 +165,8 @@ impl Judge {
         }
     }
 
-    /// Writes the sheet of a campaign of edition 1 into an output of so many bytes. Gives what the tests' own writer makes of it, or the
-    /// refusal.
+    /// Writes the sheet of a campaign of edition 1 into an output of so many bytes. Gives what the tests' own writer
+    /// makes of it, or the refusal.
     pub fn write(&mut self, campaign: &Campaign, places: usize) -> Reply<Vec<u8>> {
         let (units, bound, start) = (campaign.units(), campaign.bound, campaign.start);
         let (steps, made) = (campaign.written_steps(), campaign.bytes());
@@ -183,8 +185,8 @@ impl Judge {
         want
     }
 
-    /// The sheet in that edition, into an output of so many bytes; `read` is what the reference's reader makes of it. Gives the sheet that the
-    /// reference makes, or the refusal.
+    /// The sheet in that edition, into an output of so many bytes; `read` is what the reference's reader makes of it.
+    /// Gives the sheet that the reference makes, or the refusal.
     pub fn convert(&mut self, sheet: &[u8], read: &Reply<Sheet>, edition: u8, places: usize) -> Reply<Vec<u8>> {
         let call = ["to edition 1", "to edition 2"][usize::from(edition) - 1];
         let to = if edition == 1 { warm::to_edition_1 } else { warm::to_edition_2 };

@@ -116,7 +116,7 @@ pub fn four_runs() -> Campaign {
     Campaign { rack: 3.into(), bound: 3, start: 0, steps: [1, 2, 4, 1].map(step).to_vec() }
 }
 
-/// The same in chamber 1 of edition 2, and in chamber 2 two units of which just one must be on in each step.
+/// The same in chamber 1 of edition 2, and in chamber 2 two units of which exactly one must be on in each step.
 pub fn two_chambers() -> Campaign {
     let step = |lower| ChamberStep::new(lower, 31, [0, 1, 0, 0], [2, 1, 0, 0], 0);
     Campaign { rack: [3, 2, 0, 0].into(), bound: 4, start: 0, steps: [1, 2, 4, 1].map(step).to_vec() }
@@ -230,7 +230,8 @@ impl Family {
     ];
 }
 
-/// A campaign of a family, with a bound of 0. In edition 2 each chamber has steps of the family, and of an empty one the greatest number is anything.
+/// A campaign of a family, with a bound of 0. In edition 2 each chamber has steps of the family, and of an empty one
+/// the greatest number is anything.
 pub fn draw(family: Family, rack: impl Into<Rack>, steps: usize, random: &mut Random) -> Campaign {
     let rack: Rack = rack.into();
     let all = units_below(rack.units());

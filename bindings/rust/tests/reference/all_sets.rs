@@ -1,8 +1,8 @@
 //! The fewest warm-ups from all sets of every step, for sheets of at most 16 units.
 //!
-//! For each step and each set there is the least total of the steps up to it, if it has this set, and that of the steps after it. The warm-ups
-//! from one set to the next are a sum over the units. So the least over all sets before (or after) is found unit by unit: each round lets
-//! one more unit be otherwise in the other step.
+//! For each step and each set there is the least total of the steps up to it, if it has this set, and that of the steps
+//! after it. The warm-ups from one set to the next are a sum over the units. So the least over all sets before (or
+//! after) is found unit by unit: each round lets one more unit be otherwise in the other step.
 
 use super::{feasible, warm_ups, Cells, Sheet};
 
@@ -41,7 +41,8 @@ impl AllSets {
         self.fewest
     }
 
-    /// The least total of any feasible plan in which unit `u` is on (or off) in a step, counted from 0; none if there is no such plan.
+    /// The least total of any feasible plan in which unit `u` is on (or off) in a step, counted from 0; none if there
+    /// is no such plan.
     pub fn cheapest(&self, step: usize, u: usize, on: bool) -> Option<u32> {
         self.cells[step][u][usize::from(!on)]
     }
@@ -75,12 +76,14 @@ fn go_on(totals: &mut [u32]) {
     for_pairs(totals, |off, on| (off.min(on), on.min(off + 1)));
 }
 
-/// From the least totals of the steps from one step on, by its set, to those by the set of the step before, its warm-ups counted.
+/// From the least totals of the steps from one step on, by its set, to those by the set of the step before, its
+/// warm-ups counted.
 fn go_back(totals: &mut [u32]) {
     for_pairs(totals, |off, on| (off.min(on + 1), on.min(off)));
 }
 
-/// Unit by unit: changes the totals of each pair of sets that differ in that unit alone, the one without it and the one with it.
+/// Unit by unit: changes the totals of each pair of sets that differ in that unit alone, the one without it and the one
+/// with it.
 fn for_pairs(totals: &mut [u32], change: impl Fn(u32, u32) -> (u32, u32)) {
     let mut half = 1;
     while half < totals.len() {

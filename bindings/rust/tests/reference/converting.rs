@@ -1,4 +1,5 @@
-//! Converts a sheet to an edition, byte by byte (docs/FORMAT.md, Between editions), with the causes 15 and 8 in the order of the table.
+//! Converts a sheet to an edition, byte by byte (docs/FORMAT.md, Between editions), with the causes 15 and 8 in the
+//! order of the table.
 
 use super::reading::Sheet;
 use super::Reply;

@@ -42,7 +42,8 @@ impl Exact {
         }
     }
 
-    /// The least total of any feasible plan in which unit `u` is on (or off) in a step, counted from 0; none if there is no such plan.
+    /// The least total of any feasible plan in which unit `u` is on (or off) in a step, counted from 0; none if there
+    /// is no such plan.
     pub fn cheapest(&self, step: usize, u: usize, on: bool) -> Option<u32> {
         match self {
             Exact::AllSets(all_sets) => all_sets.cheapest(step, u, on),

@@ -1,13 +1,14 @@
 //! The fewest warm-ups as the least cost of a flow, for sheets of any size.
 //!
-//! As many tokens as there are units run through the steps. In each step a token either takes the edge of a unit that is on, or waits in a
-//! pool of those that are off, of which each chamber has one. A unit's edge lets one token through if the unit is in the upper set, and must
-//! carry one if it is in the lower set. The pool of a chamber of k units carries at least k - greatest and at most k - least tokens. From step
-//! to step a token stays with its unit or goes to the pool of its chamber for nothing, and goes from that pool to a unit for a warm-up. What an
-//! edge must carry earns a bonus that outweighs all warm-ups.
+//! As many tokens as there are units run through the steps. In each step a token either takes the edge of a unit that
+//! is on, or waits in a pool of those that are off, of which each chamber has one. A unit's edge lets one token through
+//! if the unit is in the upper set, and must carry one if it is in the lower set. The pool of a chamber of k units
+//! carries at least k - greatest and at most k - least tokens. From step to step a token stays with its unit or goes to
+//! the pool of its chamber for nothing, and goes from that pool to a unit for a warm-up. What an edge must carry earns
+//! a bonus that outweighs all warm-ups.
 //!
-//! Once the cheapest flow is known, the cheapest one in which a unit's edge is the other way round differs from it by the cheapest way back
-//! from the edge's one end to the other in the residual network.
+//! Once the cheapest flow is known, the cheapest one in which a unit's edge is the other way round differs from it by
+//! the cheapest way back from the edge's one end to the other in the residual network.
 
 use super::{dealt, has, Sheet};
 use std::cmp::Reverse;
@@ -61,7 +62,8 @@ impl Flow {
         self.fewest
     }
 
-    /// The least total of any feasible plan in which unit `u` is on (or off) in a step, counted from 0; none if there is no such plan.
+    /// The least total of any feasible plan in which unit `u` is on (or off) in a step, counted from 0; none if there
+    /// is no such plan.
     pub fn cheapest(&self, step: usize, u: usize, on: bool) -> Option<u32> {
         let Some(edge) = self.unit_edges[step][u] else {
             return if on { None } else { Some(self.fewest) };
@@ -72,8 +74,8 @@ impl Flow {
         if carries == on {
             return Some(self.fewest);
         }
-        // Off: the token leaves the edge and takes another way to its end. On: a token comes, and the flow makes up for it from the end back
-        // to the start.
+        // Off: the token leaves the edge and takes another way to its end. On: a token comes, and the flow makes up for
+        // it from the end back to the start.
         let more =
             if carries { self.network.shortest(start, end)? - cost } else { self.network.shortest(end, start)? + cost };
         (more < BONUS / 2).then(|| self.fewest + more as u32)
@@ -198,7 +200,8 @@ impl Network {
         }
     }
 
-    /// The cost of the cheapest way from one node to another over edges with room, if there is one that costs less than a bonus.
+    /// The cost of the cheapest way from one node to another over edges with room, if there is one that costs less than
+    /// a bonus.
     fn shortest(&self, from: usize, to: usize) -> Option<i64> {
         let climb = self.heights[from] - self.heights[to];
         let limit = BONUS + climb;

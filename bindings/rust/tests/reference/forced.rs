@@ -1,9 +1,11 @@
-//! The fewest warm-ups with one cell forced, by planning anew: FindSupport's total for the sheet in which the unit must be on there, or may
-//! not be. That no plan has fewer is a fact about FindSupport; the references are compared with each other.
+//! The fewest warm-ups with one cell forced, by planning anew: FindSupport's total for the sheet in which the unit must
+//! be on there, or may not be. That no plan has fewer is a fact about FindSupport; the references are compared with
+//! each other.
 //!
-//! Only the chamber of the unit is planned anew: the plans of the others stay as they are. A forced unit is required (or forbidden) in one more
-//! step, which changes its rank up to that step, and no other rank. So the ranks of the chamber as it is are found once. On a tie the lower
-//! number goes first here, whatever the house rule is: the totals are the same.
+//! Only the chamber of the unit is planned anew: the plans of the others stay as they are. A forced unit is required
+//! (or forbidden) in one more step, which changes its rank up to that step, and no other rank. So the ranks of the
+//! chamber as it is are found once. On a tie the lower number goes first here, whatever the house rule is: the totals
+//! are the same.
 
 use super::support::{ban, chamber_support, need, rank, Chamber, Rank};
 use super::{has, total, warm_ups, Sheet};
@@ -30,7 +32,8 @@ struct Cell {
 
 /// The units at a step.
 struct Order {
-    /// By unit: the next step that needs it, and the next that bans it, from 1. Of another chamber's units nothing is said.
+    /// By unit: the next step that needs it, and the next that bans it, from 1. Of another chamber's units nothing is
+    /// said.
     next: [(usize, usize); 64],
     /// First in rank first.
     ranks: Vec<Rank>,
@@ -88,7 +91,8 @@ impl Forced {
         self.chambers.iter().map(|chamber| chamber.fewest).sum()
     }
 
-    /// The total of FindSupport's plans where unit `u` is forced to be on (or off) in a step, counted from 0; none if the step has no such set.
+    /// The total of FindSupport's plans where unit `u` is forced to be on (or off) in a step, counted from 0; none if
+    /// the step has no such set.
     pub fn cheapest(&self, step: usize, u: usize, on: bool) -> Option<u32> {
         let own = self.chambers.iter().find(|part| has(part.chamber.units, u)).unwrap();
         Some(self.fewest() - own.fewest + own.cheapest(Cell { step, u, on })?)

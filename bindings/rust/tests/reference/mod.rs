@@ -1,12 +1,13 @@
-//! A second implementation of the entries, written from docs/FORMAT.md alone, plain and slow. The bytes of a sheet are written by the tests'
-//! own `common::sheets`.
+//! A second implementation of the entries, written from docs/FORMAT.md alone, plain and slow. The bytes of a sheet are
+//! written by the tests' own `common::sheets`.
 //!
 //! - `reading`: the bytes of a sheet of either edition, refusals 1 to 7, 13 and 14.
 //! - `converting`: the same sheet in the other edition, refusals 15 and 8.
 //! - `support`: the plan that is handed out, FindSupport in each chamber.
-//! - `exact`: the fewest warm-ups of any feasible plan, in all and with one unit on or off in one step. For up to 16 units from all sets
-//!   (`all_sets`), for any number from a flow (`flow`): neither knows FindSupport, nor plans a chamber by itself. Or by planning anew with that
-//!   unit forced (`forced`), quick enough for whole charts of the largest sheets.
+//! - `exact`: the fewest warm-ups of any feasible plan, in all and with one unit on or off in one step. For up to 16
+//!   units from all sets (`all_sets`), for any number from a flow (`flow`): neither knows FindSupport, nor plans a
+//!   chamber by itself. Or by planning anew with that unit forced (`forced`), quick enough for whole charts of the
+//!   largest sheets.
 //! - `replies`: what each entry answers.
 
 // Each file of tests uses a part of this.

@@ -1,4 +1,5 @@
-//! Reads the bytes of a sheet of either edition: the causes 1 to 7, 13 and 14 of docs/FORMAT.md, in the order of its table.
+//! Reads the bytes of a sheet of either edition: the causes 1 to 7, 13 and 14 of docs/FORMAT.md, in the order of its
+//! table.
 
 use super::{dealt, units_below, Refusal, Reply};
 use warm::{ChamberStep, CHAMBERS};

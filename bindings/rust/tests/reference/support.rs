@@ -89,7 +89,8 @@ fn ranking(chamber: &Chamber, i: usize, tie: impl Fn(usize) -> usize) -> Vec<usi
     units
 }
 
-/// Wanted units before the rest; among wanted ones the earlier need first, among the rest the later ban first; then the lesser `tie`.
+/// Wanted units before the rest; among wanted ones the earlier need first, among the rest the later ban first; then the
+/// lesser `tie`.
 pub fn rank(need: usize, ban: usize, tie: usize) -> Rank {
     let wanted = need < ban;
     if wanted {
