@@ -215,6 +215,11 @@ WARM_CHECKED warm_reply warm_plan(
  * bound, into the first places of two outputs, one word for each step. A unit can be in both words; one that the sheet
  * does not have is in neither. Places after them are left as they are, and so are both outputs on a refusal. Outputs of
  * WARM_STEPS places are always enough. The total is that of warm_plan.
+ * With two warm-ups or more to spare (a bound of at least the total plus 2), the words show what each step alone
+ * allows: a unit can be on there exactly if some feasible set of that step has it, and off exactly if some feasible set
+ * of that step lacks it. For a detour in one step costs at most two warm-ups. To see what all plans with the fewest
+ * warm-ups have in common, set the bound (bytes 10 to 11 of the sheet) to the fewest, which is the total of warm_plan,
+ * or the place of refusal 9.
  * Takes the time of a plan, and beyond that a time linear in n * d, for n steps and d units: in all less than a
  * millisecond for the largest sheets.
  * Refusals: 1 to 9, 13 and 14.

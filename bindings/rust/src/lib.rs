@@ -265,12 +265,24 @@ pub fn plan<'a>(sheet: &[u8], output: &'a mut [u64]) -> Result<Plan<&'a [u64]>, 
 /// A unit can be in both sets of a step. A unit that the sheet does not have is in neither. Beyond that of a plan, the
 /// time is linear in the number of steps times that of units.
 ///
+/// With two warm-ups or more to spare, which is a bound of at least the total plus 2, the sets show what each step
+/// alone allows: a unit can be on there exactly if some feasible set of that step has it, and off exactly if some
+/// feasible set of that step lacks it. For a detour in one step costs at most two warm-ups. To see what all plans with
+/// the fewest warm-ups have in common, set the bound (bytes 10 to 11 of the sheet) to the fewest, which is the total of
+/// [`plan`], or the count that comes with [`Refusal::Bound`].
+///
 /// ```
 /// let (mut on, mut off) = ([0; warm::STEPS], [0; warm::STEPS]);
 /// let chart = warm::chart(&warm::FOUR_RUNS, &mut on, &mut off)?;
 /// assert_eq!(chart.on, [0b011, 0b011, 0b101, 0b101]);
 /// assert_eq!(chart.off, [0b110, 0b100, 0b010, 0b110]);
 /// assert_eq!(chart.total, 3);
+///
+/// let mut sheet = warm::FOUR_RUNS;
+/// sheet[10] = 5; // The bound. Each step alone decides now: it needs one unit, and has room for any other.
+/// let chart = warm::chart(&sheet, &mut on, &mut off)?;
+/// assert_eq!(chart.on, [0b111, 0b111, 0b111, 0b111]);
+/// assert_eq!(chart.off, [0b110, 0b101, 0b011, 0b110]);
 /// # Ok::<(), warm::Error>(())
 /// ```
 ///
