@@ -29,7 +29,7 @@ unfoldable pub sumOf : List Chamber → ℕ → List ChamberLimits → ℕ
 sumOf [] start ss = 0
 sumOf (c ∷ cs) start ss = totalOf c start ss + sumOf cs start ss
 
--- the chart of a chamber, over the plans of it that make at the most `slack` switches more than the one handed out: its units that can be on in each step, or
+-- the chart of a chamber, over the plans of it that make at most `slack` switches more than the one handed out: its units that can be on in each step, or
 -- those that can be off
 abbrev pub chartOf : Bool → ℕ → ℕ → ℕ → List ChamberLimits → Chamber → List ℕ
 chartOf on d slack start ss c =

@@ -12,7 +12,7 @@ use Rattle.format.specs.Reading.{stepsOf, readCauses}
 use Rattle.promises.specs.declared.Reply.{Reply}
 use Rattle.promises.specs.Common.{limitsOn, fitsOn, refusedReply, fullReply}
 
--- refusal 10: the plan has not one word for each step
+-- refusal 10: the plan does not have one word for each step
 abbrev pub wordsCauses : List ℕ → ℕ → List Cause
 wordsCauses s words = cause (not (eqb words (length (stepsOf s)))) 10 (length (stepsOf s)) ∷ []
 

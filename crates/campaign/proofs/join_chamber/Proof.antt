@@ -39,7 +39,7 @@ cast-n : tie.Need-cast-n
 cast-n c = search needs
 
 decode-requires : tie.Need-decode-requires
-decode-requires c κs = let k = c .before .before .before .before .before .before in (was-opened (now (k .args .sheet)) (k .pre .0) .inside, (k .pre .1 .0, k .pre .1 .1 .1 .0))
+decode-requires c κs = let k = c .before .before .before .before .before .before in (was-opened (now (k .args .sheet)) (k .pre .0) .inside, (omega (arith, k .pre .1 .0), k .pre .1 .1 .1 .0))
 
 mul-end : tie.Need-mul-end
 mul-end c = search needs
