@@ -1,5 +1,5 @@
--- The check of a plan: what a step asks of a chamber, by the sizes of its part (`counted-by`), and of all four (`four-counts`), and the loop along the chain
--- (`Checking`).
+-- The check of a plan: what a step asks of a chamber, by the sizes of its part (`counted-by`), and of all four
+-- (`four-counts`), and the loop along the chain (`Checking`).
 use mathlib.Core.Path.{_≡_, sym, ap, ap₂, _∙_}
 use mathlib.Core.Logic.{_↔_}
 use mathlib.Core.Bool.{Bool, true, false, _&&_, and-true, and-assoc, and-eq-true-iff, false≢true}
@@ -32,6 +32,7 @@ abbrev pub isSize : Sizes → ℕ → Bool
 isSize (Between few many) k = leb few k && leb k many
 isSize NoSet k = false
 
+-- the tests hold exactly if what they test is so
 from-to : (a k b : ℕ) → (leb a k && leb k b) ≡ true ↔ ((a ≤ k) × (k ≤ b))
 from-to a k b = (
   λ e. let (l, m) = and-eq-true-iff (leb a k) (leb k b) .0 e in (leb-true a k l, leb-true k b m),
@@ -42,7 +43,8 @@ is-size : (z : Sizes) (k : ℕ) → isSize z k ≡ true ↔ HasSize z k
 is-size (Between few many) k = from-to few k many
 is-size NoSet k = (λ e. absurd (false≢true e), λ h. absurd h)
 
--- Of a set between the lower and the upper set of a step, the count in a chamber fits exactly if it is one of the sizes of the chamber's part, as they were found.
+-- Of a set between the lower and the upper set of a step, the count in a chamber fits exactly if it is one of the
+-- sizes of the chamber's part, as they were found.
 pub counted-by : (c : Chamber) (s : ChamberLimits) (set : ℕ) {k : ℕ} {z : Sizes} → isSubset (s .lower) set ≡ true → isSubset set (s .upper) ≡ true
     → k ≡ sizeIn c set → z ≡ sizesOf (partOf c s) → isSize z k ≡ countFits c s set
 counted-by c s set includes within p e =

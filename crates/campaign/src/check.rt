@@ -43,8 +43,8 @@ fn lies_between(k: u32, few: u32, many: u32) -> bool
 }
 
 // Whether a set between the lower and the upper set of a step has in chamber number c, which has these units, a number
-// of units from the least to the greatest that the step asks for there: whether it is one of the sizes of the chamber's
-// part of the step.
+// of units from the least to the greatest that the step asks for there: whether it is one of the sizes of the
+// chamber's part of the step.
 fn count_fits(x: ChamberStep, c: usize, units: u64, set: u64) -> bool
     requires { ⌜ c < chamberCount ⌝ }
     requires { ⌜ isSubset (x .lower) set ≡ true ⌝ }

@@ -78,7 +78,8 @@ pub bench-sizes :
 unfolding bit intersection difference isSubset size ones onesIn dealt numbered feasibleSizes partSizes sizesIn
 bench-sizes = (refl, (refl, refl))
 
--- One unit in each of four chambers, of which that of the second must be on and that of the fourth may not: each chamber has its own numbers.
+-- One unit in each of four chambers, of which that of the second must be on and that of the fourth may not be: each
+-- chamber has numbers of its own.
 abbrev each : List Chamber
 each = chambersOf (1 ∷ 1 ∷ 1 ∷ 1 ∷ [])
 

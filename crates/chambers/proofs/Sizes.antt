@@ -1,5 +1,7 @@
--- The test of a step gives the sizes of its feasible sets, and no other (`sizes-in-exact`), and passes exactly if there is one (`some-fits`). A size of a set of
--- all chambers is the sum of the sizes of its parts; and of a sum that lies between the sums of the ends, each part has its share between its own ends.
+-- The test of a step gives the sizes of its feasible sets, and no other (`sizes-in-exact`), and passes exactly if
+-- there is one (`some-fits`), which comes to four simple tests (`four-tests-in`). A size of a set of all chambers is
+-- the sum of the sizes of its parts; and of a sum that lies between the sums of the ends, each part has its share
+-- between its own ends.
 use mathlib.Core.Path.{_≡_, refl, sym, ap, ap₂, _∙_, subst}
 use mathlib.Core.Logic.{⊎-elim, _↔_}
 use mathlib.Core.Bool.{Bool, true, false, cond, false≢true}
@@ -13,7 +15,7 @@ use Rattle.units.specs.declared.Sizes.the-variants.{Between, NoSet}
 use Rattle.units.proofs.Limits.{sizes-exact, sizes-ordered, some-feasible, four-tests}
 use Rattle.units.proofs.Sets.{bit-empty, bit-intersection, bit-union, size-empty, size-union, set-ext, subset-holds, subset-test}
 use Rattle.plans.specs.Switch.{Allows, sizesOf}
-use Rattle.chambers.specs.Chambers.{Chamber, ChamberLimits, leastIn, greatestIn, sizeIn, Counted, Fits, partOf, plus, partSizes, sizesIn, someFits}
+use Rattle.chambers.specs.Chambers.{Chamber, ChamberLimits, leastIn, greatestIn, sizeIn, Counted, Fits, partOf, plus, partSizes, sizesIn, someFits, HasRoom}
 use Rattle.chambers.proofs.Parts.{all, Apart, FitsIn, same-counted, cut-counted, fits-inside, fits-in, in-fits, first-fits, rest-fits, both-fit, size-parts, inside-whole}
 
 -- ---- sizes
@@ -227,27 +229,21 @@ module _ (cs : List Chamber) (s : ChamberLimits) where
           ⊎-elim (λ e. subst (λ (b : Chamber). (leastIn b s ≤ sizeIn b x) × (sizeIn b x ≤ greatestIn b s)) (sym e) (l, g)) (λ o. counted-at ds k o)
           (List·Memᴰ·cases-cons n)
 
-  -- There is a feasible set exactly if the lower set is within the upper one and three tests hold in each chamber: the least number is at most the
-  -- greatest, the lower set has at most the greatest number of the chamber's units, and the upper set at least the least number of them.
-  pub four-tests-in : Apart cs
-      → ((x : ℕ) × Fits cs s x)
-      ↔ (Subset (s .lower) (s .upper)
-      × ((c : Chamber) → List·Memᴰ c cs → (leastIn c s ≤ greatestIn c s) × ((sizeIn c (s .lower) ≤ greatestIn c s) × (leastIn c s ≤ sizeIn c (s .upper)))))
+  -- there is a feasible set exactly if the lower set is within the upper one and three tests hold of each chamber's
+  -- numbers
+  pub four-tests-in : Apart cs → ((x : ℕ) × Fits cs s x) ↔ (Subset (s .lower) (s .upper) × ((c : Chamber) → List·Memᴰ c cs → HasRoom c s))
   unfolding someFits sizesIn hasFeasible
   four-tests-in a = (
     λ (x, f). ((λ u. omega (arith, f .includes u, f .within u)), λ c m. tests c .0 (intersection x (c .units), part-allowed c m x f) .1),
-    λ (sub, each).
+    λ (sub, room).
         some-fits a .0
-        (ap (λ t. hasSet (cond t (partSizes cs s) NoSet)) (subset-test (s .lower) (s .upper) sub) ∙ parts-some cs s (λ c m. part c sub (each c m))),
+        (ap (λ t. hasSet (cond t (partSizes cs s) NoSet)) (subset-test (s .lower) (s .upper) sub) ∙ parts-some cs s (λ c m. part c sub (room c m))),
   )
     where
-      tests : (c : Chamber) → ((x : ℕ) × Allows (partOf c s) x) ↔ (Subset (partOf c s .lower) (partOf c s .upper)
-          × ((leastIn c s ≤ greatestIn c s) × ((sizeIn c (s .lower) ≤ greatestIn c s) × (leastIn c s ≤ sizeIn c (s .upper)))))
+      tests : (c : Chamber) → ((x : ℕ) × Allows (partOf c s) x) ↔ (Subset (partOf c s .lower) (partOf c s .upper) × HasRoom c s)
       tests c = four-tests (partOf c s .lower) (partOf c s .upper) (leastIn c s) (greatestIn c s)
 
-      part : (c : Chamber) → Subset (s .lower) (s .upper)
-          → (leastIn c s ≤ greatestIn c s) × ((sizeIn c (s .lower) ≤ greatestIn c s) × (leastIn c s ≤ sizeIn c (s .upper)))
-          → hasSet (sizesOf (partOf c s)) ≡ true
-      part c sub each =
+      part : (c : Chamber) → Subset (s .lower) (s .upper) → HasRoom c s → hasSet (sizesOf (partOf c s)) ≡ true
+      part c sub room =
           some-feasible (partOf c s .lower) (partOf c s .upper) (leastIn c s) (greatestIn c s) .1
-          (tests c .1 ((λ u. omega (arith, sub u, bit-intersection (s .lower) (c .units) u, bit-intersection (s .upper) (c .units) u)), each))
+          (tests c .1 ((λ u. omega (arith, sub u, bit-intersection (s .lower) (c .units) u, bit-intersection (s .upper) (c .units) u)), room))

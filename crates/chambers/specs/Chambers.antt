@@ -121,6 +121,11 @@ sizesIn cs s = cond (isSubset (s .lower) (s .upper)) (partSizes cs s) NoSet
 unfoldable pub someFits : List Chamber → ChamberLimits → Bool
 someFits cs s = hasSet (sizesIn cs s)
 
+-- what a chamber's numbers need for a feasible set: the least is at most the greatest, the lower set has at most the
+-- greatest number of the chamber's units, and the upper set at least the least
+abbrev pub HasRoom : Chamber → ChamberLimits → Type 0
+HasRoom c s = (leastIn c s ≤ greatestIn c s) × ((sizeIn c (s .lower) ≤ greatestIn c s) × (leastIn c s ≤ sizeIn c (s .upper)))
+
 -- ---- the plan
 
 -- FindSupport on one chamber, with an order for the ties of each step

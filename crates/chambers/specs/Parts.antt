@@ -29,8 +29,8 @@ unfoldable pub sumOf : List Chamber → ℕ → List ChamberLimits → ℕ
 sumOf [] start ss = 0
 sumOf (c ∷ cs) start ss = totalOf c start ss + sumOf cs start ss
 
--- the chart of a chamber, over the plans of it that make at most `slack` switches more than the one handed out: its units that can be on in each step, or
--- those that can be off
+-- the chart of a chamber, over the plans of it that make at most `slack` switches more than the one handed out: its
+-- units that can be on in each step, or those that can be off
 abbrev pub chartOf : Bool → ℕ → ℕ → ℕ → List ChamberLimits → Chamber → List ℕ
 chartOf on d slack start ss c =
     cut (c .units) (canBe allows on d (totalOf c start ss + slack) (intersection start (c .units)) (partsOf c ss))

@@ -8,7 +8,8 @@ use Rattle.format.specs.declared.ChamberStep.{ChamberStep}
 use Rattle.format.specs.Answer.{Cause, cause}
 use Rattle.format.specs.Format.{sheetLength, isFirst, nextOf, stepOf}
 
--- the records that follow one another from `holder` (a record, or 0 for the header) on, until a link is 0, at most k of them
+-- the records that follow one another from `holder` (a record, or 0 for the header) on, until a link is 0, at most k
+-- of them
 unfoldable pub following : ℕ → List ℕ → ℕ → List ℕ
 following zero s holder = []
 following (suc k) s holder =
@@ -16,8 +17,8 @@ following (suc k) s holder =
     let rest = following k s next in
     cond (eqb next 0) [] (next ∷ rest)
 
--- The chain of a sheet of r records. At most one record more than there are is looked at: by then a link has led out of the sheet or back
--- to a record already met (`chain-is-long-enough` in proofs/Chains.antt).
+-- The chain of a sheet of r records. At most one record more than there are is looked at: by then a link has led out
+-- of the sheet or back to a record already met (`chain-is-long-enough` in proofs/Chains.antt).
 unfoldable pub chainOf : List ℕ → ℕ → List ℕ
 chainOf s r = following (suc r) s 0
 

@@ -20,7 +20,8 @@ refusedMost = 30
 abbrev pub sizesMost : ℕ
 sizesMost = 10
 
--- a listing has a first line, a line for each step, of which there are at most as many as a sheet has records, and a last line
+-- a listing has a first line, a line for each step, of which there are at most as many as a sheet has records, and a
+-- last line
 abbrev pub longestListing : ℕ
 longestListing = firstMost + recordLimit * stepMost + totalMost
 

@@ -6,8 +6,8 @@
 --
 -- There is a theorem for each entry (one for the two that convert), stated as `Exact` in specs/Statements.antt.
 -- Take from it the list of causes, which numbers it can have (`StepsNumber` and the like), and the two results,
--- after a refusal and with a full reply. Last come what row 7 of the table tests, in one sentence and in four tests, and
--- that the walk along the chain ends.
+-- after a refusal and with a full reply. Last come what row 7 of the table tests, in one sentence and in four tests,
+-- and that the walk along the chain ends.
 use mathlib.Core.Path.{_≡_, refl}
 use mathlib.Core.Logic.{_↔_, _⊎_, inl, inr}
 use mathlib.Core.Bool.{Bool, true}
@@ -19,7 +19,7 @@ use Rattle.units.specs.Limits.{Feasible}
 use Rattle.units.specs.Sets.{Subset, size}
 use Rattle.units.proofs.Limits.{four-tests}
 use Rattle.plans.specs.Switch.{total}
-use Rattle.chambers.specs.Chambers.{Chamber, chambersOf, leastIn, greatestIn, sizeIn, Fits, someFits}
+use Rattle.chambers.specs.Chambers.{Chamber, chambersOf, Fits, someFits, HasRoom}
 use Rattle.chambers.proofs.Dealt.{dealt-apart}
 use Rattle.chambers.proofs.Sizes.{some-fits, four-tests-in}
 use Rattle.format.specs.declared.ChamberStep.{ChamberStep}
@@ -163,10 +163,7 @@ the-four-tests = four-tests
 -- chamber, of its two numbers and of how many of its units the two sets have.
 pub the-four-tests-in-chambers : (sizes : List ℕ) (x : ChamberStep)
     → ((set : ℕ) × Fits (chambersOf sizes) (limitsOf x) set)
-    ↔ (Subset (x .lower) (x .upper)
-    × ((c : Chamber) → List·Memᴰ c (chambersOf sizes)
-    → (leastIn c (limitsOf x) ≤ greatestIn c (limitsOf x))
-    × ((sizeIn c (x .lower) ≤ greatestIn c (limitsOf x)) × (leastIn c (limitsOf x) ≤ sizeIn c (x .upper)))))
+    ↔ (Subset (x .lower) (x .upper) × ((c : Chamber) → List·Memᴰ c (chambersOf sizes) → HasRoom c (limitsOf x)))
 the-four-tests-in-chambers sizes x = four-tests-in (chambersOf sizes) (limitsOf x) (dealt-apart 0 0 sizes)
 
 -- the walk along the chain never runs out of links to look at: looking at more gives the same refusal or the same

@@ -1,6 +1,6 @@
--- Request Three: how few and how many units may be on in a step. Of each step of a sheet that passes the checks, the two
--- sizes that are listed are the least and the greatest size of a feasible set (`the-printed-sizes`), and every number
--- between them is the size of one too (`the-sizes`). Which lines are listed says `demand-1-sizes`.
+-- Request Three: how few and how many units may be on in a step. Of each step of a sheet that passes the checks, the
+-- two sizes that are listed are the least and the greatest size of a feasible set (`the-printed-sizes`), and every
+-- number between them is the size of one too (`the-sizes`). Which lines are listed says `demand-1-sizes`.
 use mathlib.Core.Path.{_≡_, refl, sym, subst}
 use mathlib.Core.Logic.{_↔_}
 use mathlib.Core.List.{List, List·Memᴰ}
@@ -31,8 +31,8 @@ the-sizes d sizes all x own =
 pub the-sizes-in-order : (sizes : List ℕ) (x : ChamberStep) (few many : ℕ) → sizesIn (chambersOf sizes) (limitsOf x) ≡ Between few many → few ≤ many
 the-sizes-in-order sizes x few many = sizes-in-ordered (chambersOf sizes) (limitsOf x) few many
 
--- Each step of a sheet that passes the checks has a line, and the two sizes in it are the least and the greatest size of
--- a feasible set of the step.
+-- Each step of a sheet that passes the checks has a line, and the two sizes in it are the least and the greatest size
+-- of a feasible set of the step.
 pub the-printed-sizes : (s : List ℕ) → Passes s → (x : ChamberLimits) → List·Memᴰ x (limitsOn s)
     → (few : ℕ) × ((many : ℕ) × ((sizesIn (chambersIn s) x ≡ Between few many) × LeastAndGreatest (chambersIn s) x few many))
 the-printed-sizes s ok x m =

@@ -201,10 +201,11 @@ loadings =
     ∷ plan (sheetOf 3 0 7 []) nines (fullReply 0 0) nines
     ∷ []
 
--- Sheets of edition 2. Their steps, with four numbers each. One unit of each chamber: in each, the higher number, and the whole total is bounded. With units 0 and 2 on at the
--- start and nothing to spare, these stay; with one switch to spare either chamber may use it, and so each unit can be on and off; but not both chambers, as the verdict says. Two of one
--- chamber and none of the other are not feasible. A full chamber: its unit cannot be off. Four chambers, of which each has numbers of its own. The sizes of the full
--- one: "1 1 2". Then refusals 13 and 14.
+-- Sheets of edition 2. Their steps, with four numbers each. One unit of each chamber: in each, the higher number, and
+-- the whole total is bounded. With units 0 and 2 on at the start and nothing to spare, these stay; with one switch to
+-- spare either chamber may use it, and so each unit can be on and off; but not both chambers, as the verdict says. Two
+-- of one chamber and none of the other are not feasible. A full chamber: its unit cannot be off. Four chambers, of
+-- which each has numbers of its own. The sizes of the full one: "1 1 2". Then refusals 13 and 14.
 unfoldable pub chamberings : List Example
 chamberings =
     steps (twoChambers oneOfThird oneOfThird) (nineStep ∷ nineStep ∷ nineStep ∷ [])

@@ -1,4 +1,5 @@
--- `campaign::check::count_fits` meets its contract: the count is one of the sizes of the chamber's part, or there is none.
+-- `campaign::check::count_fits` meets its contract: the count is one of the sizes of the chamber's part, or there is
+-- none.
 use Rattle.campaign.proofs.Checking.{counted-by}
 use Rattle.chambers.specs.Chambers.{chamber, sizeIn}
 use Rattle.format.specs.Format.{limitsOf}
