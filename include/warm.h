@@ -25,12 +25,12 @@
  * warm_to_edition_1 and warm_to_edition_2 convert a sheet of the other edition. No call needs a sheet that was checked
  * before: any bytes of any length get a full reply or one refusal.
  *
- * A set is feasible in a step if it includes the lower set, lies within the upper set, and has in each chamber a number
- * of units from that chamber's least to its greatest number. Where there is such a set, the least size of one is the
- * sum, over the chambers, of the greater of the least number and the number of the chamber's units in the lower set,
- * the greatest size is that of the lesser of the greatest number and the number of its units in the upper set, and
- * every number between is the size of one too. The program list_sizes prints the two, how few and how many units may be
- * on, for each step of a sheet.
+ * A set is feasible in a step if it includes the lower set, lies within the upper set, and has in each chamber a
+ * number of units from that chamber's least to its greatest number. Where there is such a set, its least size is the
+ * sum over the chambers of the greater of the least number and the number of the chamber's units in the lower set, its
+ * greatest size is the sum of the lesser of the greatest number and the number of the chamber's units in the upper
+ * set, and every size between occurs too. The program list_sizes prints the two, how few and how many units may be on,
+ * for each step of a sheet.
  *
  * A plan has one word for each step: the set of units that are on. It is feasible if the set of every step is. Its
  * warm-ups in a step are the units that are on there and off in the step before; for the first step the start set is
@@ -63,10 +63,10 @@
  *   11       the number of units, the start set or the number of steps is outside the limits of a sheet  0
  *   12       the output is shorter than the sheet                                       count of the bytes of the sheet
  *
- * The first cause in this order is the one that is given: of 4 and 5 that of the earlier link, and of 14, 6 and 7 that
- * of the earlier step. The place of refusal 4 is 0 if the header holds the number. The places that refusal 8 counts are
- * one for each step, or, of warm_to_edition_1 and warm_to_edition_2, one for each byte of the converted sheet. Below,
- * each entry says which refusals it gives.
+ * The first cause in this order is given: of 4 and 5 the one at the earlier link, and of 14, 6 and 7 the one in the
+ * earlier step. The place of refusal 4 is 0 if the header holds the number. The places that refusal 8 counts are one
+ * for each step, or, of warm_to_edition_1 and warm_to_edition_2, one for each byte of the converted sheet. Below, each
+ * entry says which refusals it gives.
  *
  * To learn the number of steps n, call warm_steps with no list (NULL and 0): it gives refusal 8 with n as its place, or
  * a full reply if n is 0, or one of 1 to 7, 13 and 14 if the sheet is refused. To learn the length of a sheet before it
@@ -213,13 +213,13 @@ WARM_CHECKED warm_reply warm_plan(
 /*
  * For each step the units that can be on and those that can be off, over all feasible plans whose total is at most the
  * bound, into the first places of two outputs, one word for each step. A unit can be in both words; one that the sheet
- * does not have is in neither. Places after them are left as they are, and so are both outputs on a refusal. Outputs of
- * WARM_STEPS places are always enough. The total is that of warm_plan.
+ * does not have is in neither. Places after them are left as they are, and so are both outputs on a refusal. Outputs
+ * of WARM_STEPS places are always enough. The total is that of warm_plan.
  * With two warm-ups or more to spare (a bound of at least the total plus 2), the words show what each step alone
- * allows: a unit can be on there exactly if some feasible set of that step has it, and off exactly if some feasible set
- * of that step lacks it. For a detour in one step costs at most two warm-ups. To see what all plans with the fewest
- * warm-ups have in common, set the bound (bytes 10 to 11 of the sheet) to the fewest, which is the total of warm_plan,
- * or the place of refusal 9.
+ * allows: a unit can be on there exactly if some feasible set of that step has it, and off exactly if some feasible
+ * set of that step lacks it. The reason is that a detour in one step costs at most two warm-ups. To see what all plans
+ * with the fewest warm-ups have in common, set the bound (bytes 10 to 11 of the sheet) to the fewest, which is the
+ * total of warm_plan, or the place of refusal 9.
  * Takes the time of a plan, and beyond that a time linear in n * d, for n steps and d units: in all less than a
  * millisecond for the largest sheets.
  * Refusals: 1 to 9, 13 and 14.

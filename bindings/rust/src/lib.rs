@@ -267,9 +267,9 @@ pub fn plan<'a>(sheet: &[u8], output: &'a mut [u64]) -> Result<Plan<&'a [u64]>, 
 ///
 /// With two warm-ups or more to spare, which is a bound of at least the total plus 2, the sets show what each step
 /// alone allows: a unit can be on there exactly if some feasible set of that step has it, and off exactly if some
-/// feasible set of that step lacks it. For a detour in one step costs at most two warm-ups. To see what all plans with
-/// the fewest warm-ups have in common, set the bound (bytes 10 to 11 of the sheet) to the fewest, which is the total of
-/// [`plan`], or the count that comes with [`Refusal::Bound`].
+/// feasible set of that step lacks it. The reason is that a detour in one step costs at most two warm-ups. To see what
+/// all plans with the fewest warm-ups have in common, set the bound (bytes 10 to 11 of the sheet) to the fewest, which
+/// is the total of [`plan`], or the count that comes with [`Refusal::Bound`].
 ///
 /// ```
 /// let (mut on, mut off) = ([0; warm::STEPS], [0; warm::STEPS]);
