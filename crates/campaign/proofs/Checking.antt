@@ -12,11 +12,11 @@ use lib.Dec.{leb}
 use lib.ListN.{length, drop, getD, drop-of-length-le}
 use lib.Seq.{drop-cons}
 use Rattle.units.specs.Limits.{HasSize}
-use Rattle.units.specs.Sets.{isSubset, difference, intersection, size}
+use Rattle.units.specs.Sets.{bit, isSubset, difference, intersection, size}
 use Rattle.units.specs.declared.Sizes.{Sizes}
 use Rattle.units.specs.declared.Sizes.the-variants.{Between, NoSet}
 use Rattle.units.proofs.Limits.{same-test, counted-by-sizes}
-use Rattle.units.proofs.Sets.{bit-intersection, subset-holds}
+use Rattle.units.proofs.Sets.{bit-empty, bit-intersection, set-ext, size-empty, subset-holds}
 use Rattle.chambers.specs.Chambers.{Chamber, chamber, numbered, ChamberLimits, leastIn, greatestIn, sizeIn, partOf, countFits, counts, fits}
 use Rattle.plans.specs.Plans.{isFeasible}
 use Rattle.plans.specs.Switch.{sizesOf, switches, total}
@@ -26,6 +26,13 @@ use Rattle.format.specs.Format.{chamberCount, limitsOf, nextOf, stepOf}
 use Rattle.sheet.proofs.Along.{Along, along-begun, along-on, steps-next, steps-none}
 
 -- ---- one chamber
+
+-- a set has no unit of an empty chamber
+pub none-counted : (set units : ℕ) → units ≡ 0 → 0 ≡ size (intersection set units)
+none-counted set units e =
+    let empty : intersection set units ≡ 0 =
+    set-ext (intersection set units) 0 (λ u. omega (arith, bit-intersection set units u, ap (λ (x : ℕ). bit x u) e, bit-empty u)) in
+    sym (ap size empty ∙ size-empty)
 
 -- the test that a number is one of the sizes
 abbrev pub isSize : Sizes → ℕ → Bool

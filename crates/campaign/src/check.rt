@@ -17,7 +17,7 @@ ghost use mathlib.Core.Bool.{true, _&&_};
 ghost use Prim.Native.Nat.{_<_};
 ghost use lib.Dec.{leb};
 ghost use lib.ListN.{length};
-ghost use Rattle.units.specs.Sets.{isSubset};
+ghost use Rattle.units.specs.Sets.{isSubset, intersection, size};
 ghost use Rattle.chambers.specs.Chambers.{chamber, numbered, countFits, counts, fits};
 ghost use Rattle.plans.specs.Plans.{isFeasible};
 ghost use Rattle.plans.specs.Switch.{total};
@@ -30,6 +30,16 @@ ghost use Rattle.promises.specs.Common.{limitsOn, fitsOn};
 pub struct Checked {
     pub feasible: bool,
     pub total: u32,
+}
+
+// How many of these units a set has. Of an empty chamber nothing is counted.
+fn count_in(set: u64, units: u64) -> u32
+    ensures { λ r. ⌜ r ≡ size (intersection set units) ⌝ }
+{
+    if units == 0 {
+        return 0;
+    }
+    size(intersection(set, units))
 }
 
 // Whether a number lies from the one to the other.
@@ -52,7 +62,7 @@ fn count_fits(x: ChamberStep, c: usize, units: u64, set: u64) -> bool
     ensures { λ r. ⌜ r ≡ countFits (chamber c units) (limitsOf x) set ⌝ }
 {
     match part_sizes(x, c, units) {
-        Sizes::Between(few, many) => lies_between(size(intersection(set, units)), few, many),
+        Sizes::Between(few, many) => lies_between(count_in(set, units), few, many),
         Sizes::NoSet => false,
     }
 }

@@ -3,8 +3,7 @@
 use Rattle.campaign.proofs.Checking.{counted-by}
 use Rattle.chambers.specs.Chambers.{chamber, sizeIn}
 use Rattle.format.specs.Format.{limitsOf}
-use Rattle.units.specs.Sets.{size}
-use mathlib.Core.Path.{refl, sym, ap, _∙_}
+use mathlib.Core.Path.{refl, sym, _∙_}
 use borrow.Author.Needs.{needs}
 use Rattle.campaign.proofs.check.count_fits.Statement.{statement}
 use Rattle.campaign.proofs.check.count_fits.Tie as tie
@@ -15,11 +14,8 @@ part-sizes-requires c κs = search needs
 enum-known-few : tie.Need-enum-known-few
 enum-known-few c = search needs
 
-intersection-requires : tie.Need-intersection-requires
-intersection-requires c κs = search needs
-
-size-requires : tie.Need-size-requires
-size-requires c κs = search needs
+count-in-requires : tie.Need-count-in-requires
+count-in-requires c κs = search needs
 
 lies-between-requires : tie.Need-lies-between-requires
 lies-between-requires c κs = search needs
@@ -29,12 +25,11 @@ enum-told c = search needs
 
 returns : tie.Need-returns
 returns c =
-    let k = c .before .before .before .before .before .before in
+    let k = c .before .before .before .before .before in
     let a = k .before .args in
     let pre = k .before .pre in
-    let found = sym (c .before .before .before .before .few .given .1) ∙ k .part-sizes .ensures .0 in
-    let many = c .before .size .ensures ∙ ap size (c .before .before .intersection .ensures) in
-    c .lies-between .ensures ∙ counted-by (chamber (a .c) (a .units)) (limitsOf (a .x)) (a .set) (pre .1 .0) (pre .1 .1) many found
+    let found = sym (c .before .before .before .few .given .1) ∙ k .part-sizes .ensures .0 in
+    c .lies-between .ensures ∙ counted-by (chamber (a .c) (a .units)) (limitsOf (a .x)) (a .set) (pre .1 .0) (pre .1 .1) (c .before .count-in .ensures) found
 
 returns-2 : tie.Need-returns-2
 returns-2 c =
@@ -51,8 +46,7 @@ count-fits-spec =
     (tie.spec
     part-sizes-requires
     enum-known-few
-    intersection-requires
-    size-requires
+    count-in-requires
     lies-between-requires
     enum-told
     returns
