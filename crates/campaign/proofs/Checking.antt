@@ -107,6 +107,13 @@ module _ (us : List ℕ) (s : ChamberLimits) (set : ℕ) (four : length us ≡ c
   pub fourth-decides : fit 0 ≡ true → fit 1 ≡ true → fit 2 ≡ true → fit 3 ≡ counts (numbered 0 us) s set
   fourth-decides e f g = (λ i. sym e i && (sym f i && (sym g i && fit 3))) ∙ four-counts
 
+-- ---- a set
+
+-- a set that includes the lower set and has a unit outside the upper one is not feasible
+pub outside : (cs : List Chamber) (s : ChamberLimits) (set : ℕ) → isSubset (s .lower) set ≡ true → isSubset set (s .upper) ≡ false → false ≡ fits cs s set
+unfolding fits
+outside cs s set e f = λ i. sym e i && sym f i && counts cs s set
+
 -- ---- the loop
 
 -- after i sets, at record `at`: what was found with what is still to be found is all

@@ -1,5 +1,7 @@
 -- `campaign::check::set_fits` meets its contract.
-use Rattle.chambers.specs.Chambers.{fits}
+use Rattle.campaign.proofs.Checking.{outside}
+use Rattle.chambers.specs.Chambers.{numbered, fits}
+use Rattle.format.specs.Format.{limitsOf}
 use borrow.Author.Tests.{not-true, not-false}
 use mathlib.Core.Path.{sym, _∙_}
 use borrow.Author.Needs.{needs}
@@ -17,9 +19,10 @@ is-subset-requires-2 : tie.Need-is-subset-requires-2
 is-subset-requires-2 c κs = search needs
 
 returns-2 : tie.Need-returns-2
-unfolding fits
 returns-2 c =
-    simp (sym (c .before .before .before .is-subset .ensures) ∙ not-false _ (c .before .before .if1 .left), sym (c .before .is-subset2 .ensures) ∙ not-true _ (c .if2 .taken))
+    let a = c .before .before .before .before .args in
+    outside (numbered 0 (a .chambers .units)) (limitsOf (a .x)) (a .set)
+    (sym (c .before .before .before .is-subset .ensures) ∙ not-false _ (c .before .before .if1 .left)) (sym (c .before .is-subset2 .ensures) ∙ not-true _ (c .if2 .taken))
 
 counts-fit-requires : tie.Need-counts-fit-requires
 counts-fit-requires c κs = (
