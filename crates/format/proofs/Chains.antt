@@ -3,9 +3,9 @@
 -- `Met r on`: the records `on` the chain are distinct and between 1 and r, so that they are r at the most (`met_room`). They are told apart by
 -- a set that has each of them as a unit: its size is their number, and it has no unit but 1 to r.
 use mathlib.Core.Path.{◌≡◌, refl, sym, ap, ◌∙◌, subst}
-use mathlib.Core.Bool.{true, false, ◌||◌, or_assoc, or-false, or_true}
+use mathlib.Core.Bool.{true, false, ◌||◌, or_assoc, or-false, or-true}
 use mathlib.Core.List.{List, [], ◌∷◌, ◌++◌}
-use Prim.Native.Nat.{ℕ, zero, suc, ◌+◌, ◌-◌, ◌/◌, ◌^◌, ◌≤◌, ◌<◌}
+use Prim.Native.Nat.{ℕ, zero, suc, ◌+◌, ◌/◌, ◌^◌, ◌≤◌, ◌<◌}
 use native.Mathlib.Nat.{pow-suc, suc-add}
 use native.Mathlib.Decide.{ℕ_discrete}
 use native.Mathlib.Omega.{arith}
@@ -27,7 +27,7 @@ in_last j k [] = or-false (eqb j k)
 in_last j k (x ∷ on) = ap (λ b. eqb j x || b) (in_last j k on) ∙ sym (or_assoc (eqb j x) (is_in j on) (eqb j k))
 
 pub in_last_same : (k : ℕ) (on : List ℕ) → is_in k (on ++ (k ∷ [])) ≡ true
-in_last_same k on = in_last k k on ∙ ap (λ b. is_in k on || b) (eq-eqb k k refl) ∙ or_true (is_in k on)
+in_last_same k on = in_last k k on ∙ ap (λ b. is_in k on || b) (eq-eqb k k refl) ∙ or-true (is_in k on)
 
 pub in_last_other : (j k : ℕ) (on : List ℕ) → (j ≡ k → ⊥) → is_in j (on ++ (k ∷ [])) ≡ is_in j on
 in_last_other j k on h = in_last j k on ∙ ap (λ b. is_in j on || b) (ne_eqb j k h) ∙ or-false (is_in j on)

@@ -12,7 +12,7 @@ use lib.Dec.{eqb}
 use lib.ListN.{length, get_or, take, drop, length-append, length-drop, take-append-drop}
 use lib.Seq.{length-take-le, take_at, take_all, drop-drop, take-add, drop-append-add}
 use borrow.Author.Tests.{eqb-true}
-use Rattle.format.specs.Editions.{part, zeros, header_in, record_in, record_part, records_in, remade, in_edition, narrowed}
+use Rattle.format.specs.Editions.{part, header_in, record_in, record_part, records_in, remade, in_edition, narrowed}
 use Rattle.format.specs.Format.{first_edition, second_edition, header_size, record_size, next_at, sheet_length, record_offset, letters_of, edition_of, is_first, units_of, records_of, first_of, bound_of, reserved_of, start_of, one_size, four_sizes, sizes, step_in}
 use Rattle.format.specs.Numbers.{byte_at, u16_at, u32_at, u64_at}
 use Rattle.format.specs.Writing.{widened}

@@ -1,15 +1,16 @@
 // The campaign sheet, with no code: its layout, and what any bytes say, either one refusal or a campaign. docs/FORMAT.md describes the format in words;
 // specs/Reading.antt is the definition that the reader is proved to equal. proofs/ has the laws on it. The structs are those of the reader.
+#![tactic(auto)]
 
 // What is sent back in place of a reply: a number of the refusal table, and the place it goes with.
-#[derive(Drop)]
+#[derive(Clone, Copy)]
 pub struct Refusal {
     pub number: u32,
     pub place: u32,
 }
 
 // How many units each chamber has.
-#[derive(Drop)]
+#[derive(Clone, Copy)]
 pub struct ChamberSizes {
     pub first: u32,
     pub second: u32,
@@ -18,7 +19,7 @@ pub struct ChamberSizes {
 }
 
 // The numbers of a header that has passed its checks. In a sheet of edition 1 all units are in the first chamber.
-#[derive(Drop)]
+#[derive(Clone, Copy)]
 pub struct Header {
     pub units: u32,
     pub records: u32,
@@ -28,7 +29,7 @@ pub struct Header {
 }
 
 // What a sheet says, but for its steps themselves: how many they are (n, in docs/FORMAT.md) stands for them.
-#[derive(Drop)]
+#[derive(Clone, Copy)]
 pub struct Summary {
     pub header: Header,
     pub steps: u32,
@@ -38,7 +39,7 @@ pub struct Summary {
 // In edition 1 these are the record's two numbers for the first chamber, and zeros for the others. `reserved` has the bytes of the record that are zero: it is 0
 // in each step that passes the checks.
 #[repr(C)]
-#[derive(Drop)]
+#[derive(Clone, Copy)]
 pub struct ChamberStep {
     pub lower: u64,
     pub upper: u64,
@@ -50,7 +51,7 @@ pub struct ChamberStep {
 
 // One step as it is written, in edition 1, with one least and one greatest number.
 #[repr(C)]
-#[derive(Drop)]
+#[derive(Clone, Copy)]
 pub struct Step {
     pub lower: u64,
     pub upper: u64,

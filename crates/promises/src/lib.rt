@@ -1,6 +1,7 @@
 // What is promised to callers, with no code: for each entry its reply and what it leaves in the lent memory, for any
 // input (specs/), and the theorems that were asked for (proofs/Demands.antt names their files: open it first). The
 // structs are the replies.
+#![tactic(auto)]
 
 // What `warm_steps` replies. Where refusal is not 0, it is a refusal with its place, and the other numbers are 0.
 #[repr(C)]

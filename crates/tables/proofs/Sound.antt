@@ -73,10 +73,10 @@ module _ (tight : Bool) {s : Limits} {p t h : ℕ} {f : ℕ → ℕ} {w : Later}
   due_less b e = omega (arith, g.one_more (remove t b) b, ap due (insert_remove t b e))
 
   -- a in place of b
-  in_place : (b a : ℕ) → bit t b ≡ 1 → bit s.upper a ≡ 1 → bit t a ≡ 0
+  in_place_lem : (b a : ℕ) → bit t b ≡ 1 → bit s.upper a ≡ 1 → bit t a ≡ 0
       → (bit (in_place tight (turned s p t h f) w b) a ≡ 1) ↔ Replaces b a
   unfolding in_place
-  in_place b a tb ua ta = go tight
+  in_place_lem b a tb ua ta = go tight
     where
       row : ℕ
       row = turned s p t h f b
@@ -147,12 +147,12 @@ module _ (tight : Bool) {s : Limits} {p t h : ℕ} {f : ℕ → ℕ} {w : Later}
               ⊎_map (in_more u uu tu).0 (λ n.
                   let (b, (l, (z, c))) = some n in
                   let (tb, lb) = (in_held s t b).0 z in
-                  (b, ((tb, lb), (in_place b u tb uu tu).0 c))) (one y),
+                  (b, ((tb, lb), (in_place_lem b u tb uu tu).0 c))) (one y),
             )) (any k),
         λ k. of-any (⊎_map (λ m. m) (λ ((uu, tu), m). both (
           (in_free s t u).1 (uu, tu),
           of_one (⊎_map (in_more u uu tu).1
-              (λ (b, ((tb, lb), c)). row (b, (low_on b tb, ((in_held s t b).1 (tb, lb), (in_place b u tb uu tu).1 c)))) m),
+              (λ (b, ((tb, lb), c)). row (b, (low_on b tb, ((in_held s t b).1 (tb, lb), (in_place_lem b u tb uu tu).1 c)))) m),
         )) k),
       )
 
@@ -174,14 +174,14 @@ module _ (tight : Bool) {s : Limits} {p t h : ℕ} {f : ℕ → ℕ} {w : Later}
               ⊎_map (in_less u tu).0 (λ n.
                   let (a, (c, x)) = some n in
                   let (ua, ta) = (in_free s t a).0 x in
-                  (a, ((ua, ta), (in_place u a tu ua ta).0 c))) (one y),
+                  (a, ((ua, ta), (in_place_lem u a tu ua ta).0 c))) (one y),
             )) (any k),
         λ k. of-any (⊎_map (λ m. of-off (i, m)) (λ ((tu, lu), m). of-pass (
           low_on u tu,
           (
             (in_held s t u).1 (tu, lu),
             of_one (⊎_map (in_less u tu).1
-                (λ (a, ((ua, ta), c)). meet (a, ((in_place u a tu ua ta).1 c, (in_free s t a).1 (ua, ta)))) m),
+                (λ (a, ((ua, ta), c)). meet (a, ((in_place_lem u a tu ua ta).1 c, (in_free s t a).1 (ua, ta)))) m),
           ),
         )) k),
       )

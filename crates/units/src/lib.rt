@@ -2,6 +2,8 @@
 //
 // Each function is a few machine operations and ensures that its result is the set, size or test that specs/Sets.antt defines, or, for the test of a step,
 // specs/Limits.antt. Those that take a unit require that it is below 64. They serve the crates above; none is an open entry of the library.
+#![tactic(auto)]
+
 ghost use Rattle.std.specs.Prelude.{◌≡◌, cond, ℕ, ◌-◌, ◌^◌, ◌<◌, ◌≤◌, min, max};
 ghost use Rattle.units.specs.Sets.{union, intersection, difference, is_subset, meets, contains, insert, remove, size, has_unit_from, Lowest, Highest};
 ghost use Rattle.units.specs.Limits.{feasible_sizes};

@@ -1,21 +1,13 @@
 -- `units::contains` meets its contract.
 use mathlib.Core.Path.{◌∙◌, ap}
 use Prim.Native.Nat.{ℕ}
-use borrow.Author.Rules.{rules}
 use mathlib.Core.Bool.{not}
 use lib.Bits.{bit_and}
 use lib.Dec.{eqb}
 use Rattle.units.specs.Sets.{intersection}
 use Rattle.units.proofs.Words.{one_shifted, and_single}
-use Rattle.units.proofs.contains.Statement.{statement}
-use Rattle.units.proofs.contains.Tie as tie
+use Rattle.units.proofs.contains.Goals as goal
 
-shl-result : tie.Need-overflow-shl-result
-shl-result c = search rules
-
-returns : tie.Need-returns
+pub returns : goal.returns
 unfolding intersection
 returns c = ap (λ (x : ℕ). not (eqb (bit_and c.args.s x) 0)) (one_shifted c.args.u c.requires) ∙ and_single c.args.s c.args.u
-
-pub contains-spec : {M : Type 1} → statement M
-contains-spec = tie.close (tie.spec shl-result returns)
