@@ -1,5 +1,7 @@
 // The backward tables, step by step: how the switches still to come from a neighbour of the plan's set compare with those from the set; and the words of
 // the chart, which are read from both tables. specs/Tables.antt of `tables` defines them. Nothing here is an open entry of the library.
+#![tactic(auto)]
+
 ghost use Rattle.std.specs.Prelude.{◌≡◌, ℕ, ◌≤◌, ◌+◌, length, get_or};
 ghost use Rattle.units.specs.Sets.{bit};
 ghost use Rattle.tables.specs.Places.{rows_in, later_in};
@@ -14,7 +16,7 @@ mod find;
 mod rows;
 
 // A step of the plan: its limits, the plan's sets before and after it, and the units held before it.
-#[derive(Drop)]
+#[derive(Clone, Copy)]
 pub struct PlanStep {
     pub limits: Limits,
     pub before: u64,
@@ -23,7 +25,7 @@ pub struct PlanStep {
 }
 
 // What is still to come after a step, but for the rows.
-#[derive(Drop)]
+#[derive(Clone, Copy)]
 pub struct Sides {
     pub saves: u64,
     pub dispensable: u64,

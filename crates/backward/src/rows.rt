@@ -7,7 +7,7 @@ use units::{ALL, choose, contains, intersection, lowest, union, without_lowest};
 
 // What the rows of a step have in common, going backward: the units with which a switch is saved before the step, those that are dispensable, those held, on
 // and new after it, and the free ones.
-#[derive(Drop)]
+#[derive(Clone, Copy)]
 pub struct Back {
     pub saves: u64,
     pub dispensable: u64,

@@ -20,7 +20,7 @@ use Rattle.format.specs.declared.Header.{Header}
 use Rattle.format.specs.declared.Summary.{Summary}
 use Rattle.format.specs.Answer.{Given}
 use Rattle.format.specs.Chain.{steps_from}
-use Rattle.format.specs.Format.{unit_limit, chamber_count, sizes, sizes_list, chambers_in, limits_of, start_of}
+use Rattle.format.specs.Format.{unit_limit, chamber_count, sizes_list, chambers_in, limits_of, start_of}
 use Rattle.format.specs.Reading.{steps_of}
 use Rattle.format.specs.Stages.{summary_read}
 use Rattle.promises.specs.Common.{limits_on, sized_in, written}

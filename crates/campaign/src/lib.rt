@@ -1,6 +1,8 @@
 // A campaign that was read from a sheet, chamber by chamber: the steps of a chamber are decoded, with the sizes of
 // their feasible sets in the place of their two numbers, and planned, and the plans of all chambers are joined; or a
 // plan is checked on the steps. Nothing here is an open entry of the library.
+#![tactic(auto)]
+
 pub mod check;
 
 ghost use Rattle.std.specs.Prelude.{◌≡◌, ◌*◌, ◌≤◌, ◌<◌, length};

@@ -1,6 +1,8 @@
 // The chart: which units can be on in each step, and which can be off, over all feasible plans within a bound.
 // Its words are read from two tables, one made forward over the steps and one backward; specs/Tables.antt of `tables` defines them, and laws there say that
 // they are the chart. The time is linear in the number of steps and in the number of units that are on. Nothing here is an open entry of the library.
+#![tactic(auto)]
+
 ghost use Rattle.std.specs.Prelude.{◌≡◌, ◌≤◌, length};
 ghost use Rattle.std.proofs.lemmas.List.Edits.{sets};
 ghost use Rattle.plans.specs.Rows.{steps_in, Rows};

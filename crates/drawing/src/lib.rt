@@ -1,5 +1,7 @@
 // The chart of a sheet that was read, drawn chamber by chamber from its plan: what the bound leaves to spare in all,
 // it leaves in each. Nothing here is an open entry of the library.
+#![tactic(auto)]
+
 ghost use Rattle.std.specs.Prelude.{◌≡◌, true, false, ◌+◌, ◌*◌, ◌≤◌, ◌<◌, length, take};
 ghost use Rattle.std.proofs.lemmas.List.Edits.{sets};
 ghost use Rattle.campaign.specs.Benches.{units_on, chamber_on, DecodedIn, chart_on, joined_to};

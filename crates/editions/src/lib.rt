@@ -1,5 +1,7 @@
 // Sheets converted from one edition to the other: the reader's refusals, 15 and 8, or the bytes of the sheet in the other edition. specs/Editions.antt of `format` has these
 // bytes. `first` is true for the first edition everywhere. Nothing here is an open entry of the library.
+#![tactic(auto)]
+
 pub mod remake;
 
 ghost use Rattle.std.specs.Prelude.{◌≡◌, ◌&&◌, ltb, length};

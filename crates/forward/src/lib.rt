@@ -1,5 +1,7 @@
 // The forward tables, step by step: which units can be on in place of a held one at no more switches than the plan makes so far. specs/Tables.antt of
 // `tables` defines them, and steps lie in words as specs/Rows.antt of `plans` says. Nothing here is an open entry of the library.
+#![tactic(auto)]
+
 ghost use Rattle.std.specs.Prelude.{◌≡◌, ℕ, ◌≤◌, ◌<◌, ◌+◌, length, get_or};
 ghost use Rattle.units.specs.Sets.{bit};
 ghost use Rattle.plans.specs.Rows.{steps_in, Rows};

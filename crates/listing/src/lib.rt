@@ -1,5 +1,7 @@
 // The listings of a sheet: its plan as text, or how many units may be on in each step, or the refusal that it gets. `list_plan` and `list_sizes` are open to
 // callers, and nothing else; docs/FORMAT.md has the texts.
+#![tactic(auto)]
+
 mod digits;
 mod lines;
 mod sizes;

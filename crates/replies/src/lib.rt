@@ -1,5 +1,7 @@
 // Replies that several entries make: a refusal of each kind, and the reply for bytes that were written. Nothing here
 // is an open entry of the library.
+#![tactic(auto)]
+
 ghost use Rattle.std.specs.Prelude.{◌≡◌};
 ghost use Rattle.format.specs.Answer.{Refused};
 ghost use Rattle.promises.specs.Common.{refused_reply, refused_written, full_written};

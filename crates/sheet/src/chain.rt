@@ -12,7 +12,7 @@ use format::Refusal;
 
 // How far a walk has come: a mark for each record that it has met, one bit a record, the record that it stands at (0 for the header),
 // and how many records it has met.
-#[derive(Drop)]
+#[derive(Clone, Copy)]
 pub struct Walk {
     pub marks: [u64; 4],
     pub at: usize,

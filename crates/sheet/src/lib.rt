@@ -3,6 +3,8 @@
 //
 // The modules follow the data: numbers out of bytes, the header, the chain of records, one record as a step, what it asks of the chambers, the open sheet, which lends
 // the bytes to those, and the steps as words for the planner. Nothing here is an open entry of the library.
+#![tactic(auto)]
+
 pub mod chain;
 pub mod decode;
 pub mod head;

@@ -44,7 +44,9 @@ pub fn walk_opened(bytes: &[u8], header: Header) -> ReadAnswer
     walk_sheet(open_sheet(bytes, header))
 }
 
-// What header and chain say: the first refusal of 1 to 5 and 13, or the summary.
+// What header and chain say: the first refusal of 1 to 5 and 13, or the summary. It is not put into `read`, so that its
+// work is off the stack while the steps are searched.
+#[inline(never)]
 pub fn read_chain(bytes: &[u8]) -> ReadAnswer
     ensures { read_told result ≡ open_read bytes.now }
 {

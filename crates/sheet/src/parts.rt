@@ -10,7 +10,7 @@ use format::{ChamberSizes, ChamberStep};
 use units::{Sizes, difference, feasible_sizes, intersection, is_subset, units_below};
 
 // The units of each chamber, as sets.
-#[derive(Drop)]
+#[derive(Clone, Copy)]
 pub struct Chambers {
     pub units: [u64; Sheet::CHAMBERS],
 }

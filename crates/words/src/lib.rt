@@ -1,5 +1,7 @@
 // What is done with the words of outputs, one word a step: they are cleared, copied, and cut down to some units.
 // Nothing here is an open entry of the library.
+#![tactic(auto)]
+
 ghost use Rattle.std.specs.Prelude.{◌≡◌, ◌≤◌, length, replicate, take};
 ghost use Rattle.std.proofs.lemmas.List.Edits.{sets};
 ghost use Rattle.chambers.specs.Parts.{cut};

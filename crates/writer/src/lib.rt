@@ -1,6 +1,8 @@
 // What is put into an output: bytes, texts, numbers and fields that are copied, and a sheet that is written, up to the
 // loop over its steps: refusals 11 and 12, the header, and one record. Sheets are written in edition 1, and
 // specs/Writing.antt of `format` has their bytes. Nothing here is an open entry of the library.
+#![tactic(auto)]
+
 pub mod copy;
 pub mod put;
 pub mod records;
