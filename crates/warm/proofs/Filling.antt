@@ -30,50 +30,45 @@ module _ (s : List ℕ) where
       ∙ append_snoc done x (steps_from s (next_of s j) t ++ drop t rest)
 
   module _ (n : ℕ) (ys : List ChamberStep) where
-    -- where the loop stands, with `left` turns to go: record j is the last one read, and the list is xs. What the
-    -- turns to go make of xs is what the definition says
-    pub record Turn : Type 0 where
-      pub left : ℕ
-      pub i : ℕ
-      pub j : ℕ
-      pub xs : List ChamberStep
-      pub count : i + left ≡ n
+    -- where the loop stands after i turns: record j is the last one read, and the list is xs. What the turns to go make
+    -- of xs is what the definition says
+    pub record Turn (i j : ℕ) (xs : List ChamberStep) : Type 0 where
+      pub within : i ≤ n
       pub same : length xs ≡ length ys
-      pub inside : Inside s j left
-      pub ends : filling left j i xs ≡ steps_from s 0 n ++ drop n ys
+      pub inside : Inside s j (n - i)
+      pub ends : filling (n - i) j i xs ≡ steps_from s 0 n ++ drop n ys
 
-    abbrev pub begin : Inside s 0 n → n ≤ length ys → Turn
-    begin h l = record { left = n; i = 0; j = 0; xs = ys; count = omega arith; same = refl; inside = h; ends = fills n 0 0 [] ys refl l }
-
-    -- a turn is left, or none is
-    pub one_left : (x : Turn) → x.i < n → x.left ≡ suc (x.left - 1)
-    one_left x l = omega (arith, x.count)
-
-    none_left : (x : Turn) → n ≤ x.i → x.left ≡ 0
-    none_left x l = omega (arith, x.count)
-
-    -- what a turn asks: both records that it reads lie within the sheet
-    pub reads : (x : Turn) → x.i < n → Within s x.j × (((0 < next_of s x.j) × Within s (next_of s x.j)) × Inside s (next_of s x.j) (x.left - 1))
-    unfolding Inside
-    reads x l = subst (Inside s x.j) (one_left x l) x.inside
-
-    -- where the loop stands after a turn, with fewer turns left
-    abbrev pub next : (x : Turn) → x.i < n → Turn
-    next x l =
+    pub begin : Inside s 0 n → n ≤ length ys → Turn 0 0 ys
+    begin h l =
+        let whole : n ≡ n - 0 = omega arith in
         record {
-          left = x.left - 1;
-          i = x.i + 1;
-          j = next_of s x.j;
-          xs = set x.xs x.i (step_of s (next_of s x.j));
-          count = omega (arith, x.count);
-          same = length-set x.xs x.i (step_of s (next_of s x.j)) ∙ x.same;
-          inside = (reads x l).1.1;
-          ends = subst (λ (t : ℕ). filling t x.j x.i x.xs ≡ steps_from s 0 n ++ drop n ys) (one_left x l) x.ends;
+          within = omega arith;
+          same = refl;
+          inside = subst (Inside s 0) whole h;
+          ends = subst (λ (t : ℕ). filling t 0 0 ys ≡ steps_from s 0 n ++ drop n ys) whole (fills n 0 0 [] ys refl l);
         }
 
-    pub nearer : (x : Turn) (l : x.i < n) → (next x l).left < x.left
-    nearer x l = omega (arith, x.count)
+    -- a turn is left
+    one_left : (i : ℕ) → i < n → n - i ≡ suc (n - (i + 1))
+    one_left i l = omega arith
+
+    -- what a turn asks: both records that it reads lie within the sheet
+    pub reads : {i j : ℕ} {xs : List ChamberStep} → Turn i j xs → i < n → Within s j × (((0 < next_of s j) × Within s (next_of s j)) × Inside s (next_of s j) (n - (i + 1)))
+    unfolding Inside
+    reads {i} {j} x l = subst (Inside s j) (one_left i l) x.inside
+
+    -- where the loop stands after a turn
+    pub next : {i j : ℕ} {xs : List ChamberStep} → Turn i j xs → i < n → Turn (i + 1) (next_of s j) (set xs i (step_of s (next_of s j)))
+    next {i} {j} {xs} x l =
+        record {
+          within = omega arith;
+          same = length-set xs i (step_of s (next_of s j)) ∙ x.same;
+          inside = (reads x l).1.1;
+          ends = subst (λ (t : ℕ). filling t j i xs ≡ steps_from s 0 n ++ drop n ys) (one_left i l) x.ends;
+        }
 
     -- the list where no turn is left
-    pub ended : (x : Turn) → n ≤ x.i → x.xs ≡ steps_from s 0 n ++ drop n ys
-    ended x l = subst (λ (t : ℕ). filling t x.j x.i x.xs ≡ steps_from s 0 n ++ drop n ys) (none_left x l) x.ends
+    pub ended : {i j : ℕ} {xs : List ChamberStep} → Turn i j xs → n ≤ i → xs ≡ steps_from s 0 n ++ drop n ys
+    ended {i} {j} {xs} x l =
+        let none : n - i ≡ 0 = omega arith in
+        subst (λ (t : ℕ). filling t j i xs ≡ steps_from s 0 n ++ drop n ys) none x.ends

@@ -111,58 +111,47 @@ abbrev pub no_step : Step
 no_step = record { lower = 0; upper = 0; least = 0; greatest = 0; tag = 0 }
 
 module _ (xs : List Step) (m : ℕ) (few : m ≤ length xs) (zs : List ℕ) where
-  -- where the loop stands, with `left` turns to go: with the records that are left put into ws, the output is what the
-  -- loop makes of zs
-  pub record Turn : Type 0 where
-    pub left : ℕ
-    pub i : ℕ
-    pub ws : List ℕ
-    pub count : i + left ≡ m
+  -- where the loop stands after i turns: with the records that are left put into ws, the output is what the loop makes
+  -- of zs
+  pub record Turn (i : ℕ) (ws : List ℕ) : Type 0 where
+    pub within : i ≤ m
     pub same : length ws ≡ length zs
     pub ends : sets ws (record_offset true (i + 1)) (records_after i m (drop i (take m xs))) ≡ recorded m xs zs
 
-  abbrev pub begin : Turn
-  begin = record { left = m; i = 0; ws = zs; count = omega arith; same = refl; ends = refl }
+  pub begin : Turn 0 zs
+  begin = record { within = omega arith; same = refl; ends = refl }
 
-  -- the step that a turn reads, and what it makes of the output
-  abbrev pub taken : Turn → Step
-  taken t = get_or xs t.i no_step
+  -- what a turn makes of the output, where x is the step that it reads
+  abbrev pub turned : ℕ → Step → List ℕ → List ℕ
+  turned i x ws = sets ws (record_offset true (i + 1)) (record_bytes x (link_in (i + 1) m))
 
-  abbrev pub turned : Turn → List ℕ
-  turned t = sets t.ws (record_offset true (t.i + 1)) (record_bytes (taken t) (link_in (t.i + 1) m))
-
-  pub onward : (t : Turn) → t.i < m
-      → sets (turned t) (record_offset true (t.i + 1 + 1)) (records_after (t.i + 1) m (drop (t.i + 1) (take m xs))) ≡ recorded m xs zs
+  pub onward : {i : ℕ} {ws : List ℕ} → Turn i ws → i < m
+      → sets (turned i (get_or xs i no_step) ws) (record_offset true (i + 1 + 1)) (records_after (i + 1) m (drop (i + 1) (take m xs))) ≡ recorded m xs zs
   unfolding records_after record_bytes bytes_of
-  onward t l =
-      let rest = drop (t.i + 1) (take m xs) in
-      let bytes = record_bytes (taken t) (link_in (t.i + 1) m) in
-      let first : drop t.i (take m xs) ≡ taken t ∷ rest =
-      drop-cons (take m xs) t.i no_step (omega (arith, length-take m xs)) ∙ ap₂ (λ (k : ℕ) y. y ∷ drop k (take m xs)) (sym (add-one t.i)) (get_or-take m xs t.i no_step l) in
-      let place : record_offset true (t.i + 1 + 1) ≡ record_offset true (t.i + 1) + length bytes = omega arith in
-      ap (λ (k : ℕ). sets (turned t) k (records_after (t.i + 1) m rest)) place
-      ∙ sets_append t.ws (record_offset true (t.i + 1)) bytes (records_after (t.i + 1) m rest)
-      ∙ ap (λ ys. sets t.ws (record_offset true (t.i + 1)) (records_after t.i m ys)) (sym first)
+  onward {i} {ws} t l =
+      let x = get_or xs i no_step in
+      let rest = drop (i + 1) (take m xs) in
+      let bytes = record_bytes x (link_in (i + 1) m) in
+      let first : drop i (take m xs) ≡ x ∷ rest =
+      drop-cons (take m xs) i no_step (omega (arith, length-take m xs)) ∙ ap₂ (λ (k : ℕ) y. y ∷ drop k (take m xs)) (sym (add-one i)) (get_or-take m xs i no_step l) in
+      let place : record_offset true (i + 1 + 1) ≡ record_offset true (i + 1) + length bytes = omega arith in
+      ap (λ (k : ℕ). sets (turned i x ws) k (records_after (i + 1) m rest)) place
+      ∙ sets_append ws (record_offset true (i + 1)) bytes (records_after (i + 1) m rest)
+      ∙ ap (λ ys. sets ws (record_offset true (i + 1)) (records_after i m ys)) (sym first)
       ∙ t.ends
 
-  -- where the loop stands after a turn, with fewer turns left
-  abbrev pub next : (t : Turn) → t.i < m → Turn
-  next t l =
+  -- where the loop stands after a turn
+  pub next : {i : ℕ} {ws : List ℕ} → Turn i ws → i < m → Turn (i + 1) (turned i (get_or xs i no_step) ws)
+  next {i} {ws} t l =
       record {
-        left = t.left - 1;
-        i = t.i + 1;
-        ws = turned t;
-        count = omega (arith, t.count);
-        same = length-sets t.ws (record_offset true (t.i + 1)) (record_bytes (taken t) (link_in (t.i + 1) m)) ∙ t.same;
+        within = omega arith;
+        same = length-sets ws (record_offset true (i + 1)) (record_bytes (get_or xs i no_step) (link_in (i + 1) m)) ∙ t.same;
         ends = onward t l;
       }
 
-  pub nearer : (t : Turn) (l : t.i < m) → (next t l).left < t.left
-  nearer t l = omega (arith, t.count)
-
   -- the output where no turn is left
-  pub ended : (t : Turn) → m ≤ t.i → t.ws ≡ recorded m xs zs
+  pub ended : {i : ℕ} {ws : List ℕ} → Turn i ws → m ≤ i → ws ≡ recorded m xs zs
   unfolding records_after
-  ended t l =
-      let none : length (take m xs) ≤ t.i = omega (arith, length-take m xs) in
-      sym (ap (λ ys. sets t.ws (record_offset true (t.i + 1)) (records_after t.i m ys)) (drop_of_length-le (take m xs) none)) ∙ t.ends
+  ended {i} {ws} t l =
+      let none : length (take m xs) ≤ i = omega (arith, length-take m xs) in
+      sym (ap (λ ys. sets ws (record_offset true (i + 1)) (records_after i m ys)) (drop_of_length-le (take m xs) none)) ∙ t.ends
