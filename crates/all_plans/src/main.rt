@@ -1,5 +1,7 @@
 // Lists all plans of thousands of small sheets, one by one, and holds the library's plans, verdicts and charts to what the listing finds.
 // It writes, for each edition of the sheet, how many were tried and how many of these were right.
+#![tactic(auto)]
+
 mod bytes;
 mod charts;
 mod feasible;
@@ -14,6 +16,7 @@ mod verdicts;
 use bytes::{bytes_of, put_sheet};
 use listed::list;
 use small::{Small, sets_of, units_of};
+use std::io;
 use tallies::Tallies;
 use trials::layout::{SPACE, Space};
 use trials::tally::Tally;
@@ -107,10 +110,10 @@ fn try_cases(edition: usize) -> Tallies {
 }
 
 // Tries both editions, and writes how they came out.
-fn main() {
+fn main(rt: HostRuntime) -> io::Result<()> {
     let first = try_cases(1);
     let second = try_cases(2);
-    first.write(b"edition 1");
-    second.write(b"edition 2");
-    first.plus(second).write_end();
+    first.write(&rt, b"edition 1")?;
+    second.write(&rt, b"edition 2")?;
+    first.plus(second).write_end(&rt)
 }

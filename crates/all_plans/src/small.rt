@@ -10,7 +10,7 @@ use trials::layout::ChamberLimits;
 pub type Chambers = [u64; 4];
 
 // A small sheet but for its bound: the edition, the case and whether it is large, its numbers, and the sets that are feasible in each step.
-#[derive(Drop)]
+#[derive(Clone, Copy)]
 pub struct Small {
     pub edition: usize,
     pub case: usize,

@@ -1,10 +1,10 @@
 // How many trials of each kind were made and how many of them came out right, and the lines that say so.
-use libc::STDOUT_FILENO;
+use std::io;
 use trials::tally::Tally;
 
 // The feasible plans listed, and the trials: of plans handed out and refused, of verdicts on the plans of a sheet's units, on plans with a unit
 // more and on plans of a wrong length, and of charts handed out and refused, and their cells.
-#[derive(Drop)]
+#[derive(Clone, Copy)]
 pub struct Tallies {
     pub listed: usize,
     pub plans: Tally,
@@ -18,11 +18,11 @@ pub struct Tallies {
 }
 
 // Writes a line: the name and a number.
-fn write_count(name: &[u8], count: usize) {
-    io::write_all(STDOUT_FILENO, name);
-    io::write_all(STDOUT_FILENO, b": ");
-    io::print_decimal(STDOUT_FILENO, count as u64);
-    io::write_all(STDOUT_FILENO, b"\n");
+fn write_count(out: &impl Print, name: &[u8], count: usize) -> io::Result<()> {
+    out.write_all(name)?;
+    out.write_all(b": ")?;
+    out.print(count)?;
+    out.write_all(b"\n")
 }
 
 impl Tallies {
@@ -65,30 +65,36 @@ impl Tallies {
     }
 
     // Writes a title, a line for each kind and one for all.
-    pub fn write(self, title: &[u8]) {
-        io::write_all(STDOUT_FILENO, title);
-        io::write_all(STDOUT_FILENO, b"\n");
-        write_count(b"small sheets", self.plans.plus(self.plans_refused).made);
-        write_count(b"feasible plans listed", self.listed);
-        self.plans.write(b"plans handed out");
-        self.plans_refused.write(b"plans refused by 9");
-        self.verdicts.write(b"verdicts");
-        self.unit_more.write(b"verdicts on plans with a unit more");
+    pub fn write(self, out: &impl Print, title: &[u8]) -> io::Result<()> {
+        out.write_all(title)?;
+        out.write_all(b"\n")?;
+        write_count(
+            out,
+            b"small sheets",
+            self.plans.plus(self.plans_refused).made,
+        )?;
+        write_count(out, b"feasible plans listed", self.listed)?;
+        self.plans.write(out, b"plans handed out")?;
+        self.plans_refused.write(out, b"plans refused by 9")?;
+        self.verdicts.write(out, b"verdicts")?;
+        self.unit_more
+            .write(out, b"verdicts on plans with a unit more")?;
         self.lengths
-            .write(b"verdicts on plans too long or too short");
-        self.charts.write(b"charts handed out");
-        self.charts_refused.write(b"charts refused by 9");
-        self.cells.write(b"chart cells");
-        self.all().write(b"in all");
+            .write(out, b"verdicts on plans too long or too short")?;
+        self.charts.write(out, b"charts handed out")?;
+        self.charts_refused.write(out, b"charts refused by 9")?;
+        self.cells.write(out, b"chart cells")?;
+        self.all().write(out, b"in all")
     }
 
     // Writes a line for all and one for those that are not right.
-    pub fn write_end(self) {
+    pub fn write_end(self, out: &impl Print) -> io::Result<()> {
         let all = self.all();
-        all.write(b"both editions");
+        all.write(out, b"both editions")?;
         write_count(
+            out,
             b"differences",
             std::num::wrapping_sub_usize(all.made, all.right),
-        );
+        )
     }
 }

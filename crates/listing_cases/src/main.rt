@@ -1,5 +1,7 @@
 // Tries the listings on sheets whose text is written out by hand (no bytes, no step, a bound that is too small, a chain that leads back, units in two chambers, an
 // input that is too long, and full sheets with numbers of the most digits), and writes how often they were right.
+#![tactic(auto)]
+
 mod lines;
 
 ghost use Rattle.std.specs.Prelude.{false, ◌+◌, ◌≤◌, ◌<◌, length};
@@ -7,6 +9,7 @@ ghost use Rattle.format.specs.Format.{record_size, record_limit, longest};
 
 use lines::{has_lines, is_at};
 use sheet::Sheet;
+use std::io;
 use trials::layout::{
     ChamberLimits, Head, Limits, SPACE, Space, chamber_length_of, length_of, put_chamber_head,
     put_chamber_limits, put_chamber_link, put_head, put_limits, put_link, put_most_steps,
@@ -277,7 +280,7 @@ fn try_many_sizes() -> Tally {
     Tally::of(has_wide_sizes(&bytes, b" 32 64\n", b" 10 11\n"))
 }
 
-fn main() {
+fn main(rt: HostRuntime) -> io::Result<()> {
     let all = try_nothing()
         .plus(try_no_step())
         .plus(try_bound())
@@ -286,5 +289,5 @@ fn main() {
         .plus(try_halves())
         .plus(try_too_long())
         .plus(try_many_sizes());
-    all.write(b"listings");
+    all.write(&rt, b"listings")
 }

@@ -11,7 +11,7 @@ pub const SPACE: usize = Sheet::LONGEST + Sheet::CHAMBER_RECORD_SIZE;
 pub type Space = [u8; SPACE];
 
 // The numbers of a header but for the number of its first record.
-#[derive(Drop)]
+#[derive(Clone, Copy)]
 pub struct Head {
     pub units: usize,
     pub records: usize,
@@ -20,7 +20,7 @@ pub struct Head {
 }
 
 // The limits of a step.
-#[derive(Drop)]
+#[derive(Clone, Copy)]
 pub struct Limits {
     pub lower: u64,
     pub upper: u64,
@@ -135,7 +135,7 @@ pub fn put_most_steps(bytes: &mut Space, odd: Limits, even: Limits) {
 // ---- edition 2
 
 // The limits of a step, with a least and a greatest number for each chamber.
-#[derive(Drop)]
+#[derive(Clone, Copy)]
 pub struct ChamberLimits {
     pub lower: u64,
     pub upper: u64,

@@ -1,7 +1,7 @@
 // How many trials were made and how many of them came out right, and the line that says so.
-use libc::STDOUT_FILENO;
+use std::io;
 
-#[derive(Drop)]
+#[derive(Clone, Copy)]
 pub struct Tally {
     pub made: usize,
     pub right: usize,
@@ -30,12 +30,12 @@ impl Tally {
     }
 
     // Writes a line: the name, then how many are right of how many that were made.
-    pub fn write(self, name: &[u8]) {
-        io::write_all(STDOUT_FILENO, name);
-        io::write_all(STDOUT_FILENO, b": ");
-        io::print_decimal(STDOUT_FILENO, self.right as u64);
-        io::write_all(STDOUT_FILENO, b" of ");
-        io::print_decimal(STDOUT_FILENO, self.made as u64);
-        io::write_all(STDOUT_FILENO, b" right\n");
+    pub fn write(self, out: &impl Print, name: &[u8]) -> io::Result<()> {
+        out.write_all(name)?;
+        out.write_all(b": ")?;
+        out.print(self.right)?;
+        out.write_all(b" of ")?;
+        out.print(self.made)?;
+        out.write_all(b" right\n")
     }
 }

@@ -1,0 +1,9 @@
+-- `all_plans::listed::list` meets its contract, and p goes up to the number of plans.
+use Rattle.std.proofs.Common.{◌-◌, ◌<◌, ◌≤◌}
+use Rattle.all_plans.proofs.listed.list.Given as goal
+
+abbrev pub invariant-loop-p : goal.invariant-loop-p
+invariant-loop-p l = (l.plans < 33554432) × (l.listed.fewest ≤ 100)
+
+abbrev pub decreases-loop-p : goal.decreases-loop-p
+decreases-loop-p l = l.plans - l.p
