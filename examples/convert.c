@@ -3,7 +3,7 @@
  * refused gets one line with the cause, on standard error, and status 1; a wrong call, an input that cannot be read or
  * an output that cannot be written gets status 2.
  *
- *     rt staticlib warm
+ *     ./build warm
  *     mkdir -p target/c
  *     cc -Iinclude examples/convert.c target/staticlib/libwarm.a -o target/c/convert
  *     target/c/convert 2 <examples/four_runs.sheet >target/c/raised.sheet

@@ -3,7 +3,7 @@
  * within the bound. A sheet that is refused gets one line with the cause, on standard error, and status 1; a wrong call
  * or an input that cannot be read gets status 2.
  *
- *     rt staticlib warm
+ *     ./build warm
  *     mkdir -p target/c
  *     cc -Iinclude examples/plan.c target/staticlib/libwarm.a -o target/c/plan
  *     target/c/plan <examples/four_runs.sheet

@@ -2,7 +2,7 @@
  * Writes a sheet and prints its plan: four steps that need unit 0, unit 1, unit 2 and unit 0 again, with at most two of
  * three units on. The bound is three warm-ups, and nothing is on at the start.
  *
- *     rt staticlib warm
+ *     ./build warm
  *     mkdir -p target/c
  *     cc -Iinclude examples/write.c target/staticlib/libwarm.a -o target/c/write
  *     target/c/write

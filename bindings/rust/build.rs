@@ -12,7 +12,7 @@ fn main() {
     println!("cargo:rerun-if-changed={}", archive.display());
     assert!(
         archive.is_file(),
-        "{} is not there: run `rt staticlib warm` in the repository, which writes target/staticlib/libwarm.a, \
+        "{} is not there: run `./build warm` in the repository, which writes target/staticlib/libwarm.a, \
          or set WARM_LIB_DIR to the folder that has libwarm.a (a relative one counts from the root of the repository)",
         archive.display()
     );
@@ -26,7 +26,7 @@ fn check_target() {
     let os = env::var("CARGO_CFG_TARGET_OS").unwrap();
     assert!(
         (arch.as_str(), os.as_str()) == ("x86_64", "linux"),
-        "libwarm.a, as `rt staticlib warm` writes it, is for x86-64 Linux only, and the target is {arch} {os}"
+        "libwarm.a, as `./build warm` writes it, is for x86-64 Linux only, and the target is {arch} {os}"
     );
 }
 

@@ -96,7 +96,7 @@
 //!
 //! # Linking
 //!
-//! `rt staticlib warm` in the repository writes `target/staticlib/libwarm.a`, for x86-64 Linux. The build script links
+//! `./build warm` in the repository writes `target/staticlib/libwarm.a`, for x86-64 Linux. The build script links
 //! it from there, or from the folder that the environment variable `WARM_LIB_DIR` names; a relative one counts from the
 //! root of the repository. The crate needs no `std`, but `memcpy` and `memset` of its host.
 //!

@@ -15,7 +15,7 @@ use std::io::Write;
 use std::process::{Command, Stdio};
 use warm::{ChamberStep, CHAMBERS};
 
-/// Where `rt check list_sizes` puts the program.
+/// Where `./build list_sizes` puts the program.
 const PROGRAM: &str = concat!(env!("CARGO_MANIFEST_DIR"), "/../../target/bin/list_sizes");
 
 /// What the program prints for a sheet.
@@ -24,7 +24,7 @@ fn printed(sheet: &[u8]) -> String {
         .stdin(Stdio::piped())
         .stdout(Stdio::piped())
         .spawn()
-        .expect("run `rt check list_sizes` in the repository, which writes target/bin/list_sizes");
+        .expect("run `./build list_sizes` in the repository, which writes target/bin/list_sizes");
     program.stdin.take().unwrap().write_all(sheet).unwrap();
     let output = program.wait_with_output().unwrap();
     assert!(output.status.success());
