@@ -1,6 +1,6 @@
 // The charts of the library, held to the listing.
 use super::handed::{FILL, has_total, is_left, is_over_bound};
-use super::plans::{Plan, after, last_fault, plan_at, plans_of, total_of};
+use super::numbered::{Plan, after, last_fault, plan_at, plans_of, total_of};
 use super::small::{Small, all_units};
 use trials::tally::Tally;
 use warm::warm_chart;

@@ -1,5 +1,5 @@
 // The plans that the library hands out, held to the listing.
-use super::plans::{Plan, is_feasible, total_of};
+use super::numbered::{Plan, is_feasible, total_of};
 use super::small::Small;
 use promises::Reply;
 use trials::tally::Tally;

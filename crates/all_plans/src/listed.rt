@@ -1,7 +1,7 @@
 // What a listing of all plans of a small sheet finds.
 ghost use Rattle.std.specs.Prelude.{◌≤◌};
 
-use super::plans::{Plan, after, last_fault, plan_at, plans_of, total_of};
+use super::numbered::{Plan, after, last_fault, plan_at, plans_of, total_of};
 use super::small::Small;
 
 // More switches than any plan has.

@@ -8,7 +8,7 @@ mod feasible;
 mod handed;
 mod limits;
 mod listed;
-mod plans;
+mod numbered;
 mod small;
 mod tallies;
 mod verdicts;

@@ -1,5 +1,5 @@
 // The verdicts of the library, held to the listing.
-use super::plans::{is_feasible, meets, plan_at, plans_of, total_of};
+use super::numbered::{is_feasible, meets, plan_at, plans_of, total_of};
 use super::small::Small;
 use trials::tally::Tally;
 use warm::warm_verdict;

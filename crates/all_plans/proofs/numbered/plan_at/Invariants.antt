@@ -1,6 +1,6 @@
--- `all_plans::plans::plan_at` is safe and ends: k counts up to 6.
+-- `all_plans::numbered::plan_at` is safe and ends: k counts up to 6.
 use Rattle.std.proofs.Common.{◌-◌, ◌≤◌}
-use Rattle.all_plans.proofs.plans.plan_at.Given as goal
+use Rattle.all_plans.proofs.numbered.plan_at.Given as goal
 
 abbrev pub invariant-loop-k : goal.invariant-loop-k
 invariant-loop-k l = l.k ≤ 6
