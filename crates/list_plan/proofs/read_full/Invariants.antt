@@ -1,9 +1,10 @@
--- `list_plan::read_full` is safe and ends: what is read so far stays within the array, and each turn reads more.
-use Rattle.std.proofs.Common.{◌-◌, ◌≤◌, ◌≡◌, length}
+-- `list_plan::read_full` ends, since each turn reads more, and what it put into the array is what it consumed.
+use Rattle.std.proofs.Common.{◌-◌, ◌≤◌, ◌≡◌, length, take}
+use Rattle.std.specs.Io.KnownBytes.{Consumes}
 use Rattle.list_plan.proofs.read_full.Given as goal
 
 abbrev pub invariant-loop-done : goal.invariant-loop-done
-invariant-loop-done g l = (l.done ≤ 8217) × (length l.bytes ≡ 8217)
+invariant-loop-done g l = (l.done ≤ 8217) × (length l.bytes ≡ 8217) × Consumes (g.R.Read.remaining l.initial.input) (g.R.Read.remaining l.input) (take l.done l.bytes)
 
 abbrev pub decreases-loop-done : goal.decreases-loop-done
 decreases-loop-done g l = 8217 - l.done
