@@ -1,5 +1,5 @@
 -- `trials::layout::put_most_steps` is safe and ends: k counts up to the most records.
-use Rattle.std.proofs.Common.{◌-◌, ◌≤◌, rules}
+use Rattle.std.proofs.Common.{◌-◌, ◌≤◌}
 use Rattle.format.specs.Format.{record_limit}
 use Rattle.trials.proofs.layout.put_most_steps.Given as goal
 
