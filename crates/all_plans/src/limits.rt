@@ -2,8 +2,9 @@
 ghost use Rattle.std.specs.Prelude.{◌<◌, ◌≤◌};
 
 use super::small::{Chambers, size};
-use trials::draws;
-use trials::layout::ChamberLimits;
+use std::array;
+use trials::draws::Draws;
+use trials::layout::Limits;
 
 // What the numbers are drawn for.
 const BANNED: usize = 10;
@@ -15,30 +16,22 @@ const LEAST: usize = 20;
 const GREATEST: usize = 30;
 
 // The units that a step bans: none about every second time, else some of them.
-fn banned(units: u64, case: usize, k: usize) -> u64 {
-    if draws::below(2, case, k, BANNED) == 0 {
+fn banned(units: u64, draws: Draws) -> u64 {
+    if draws.below(2, BANNED) == 0 {
         return 0;
     }
-    units & draws::set(case, k, BANNED) & draws::set(case, k, BANNED + 1)
-}
-
-// The larger of two sizes.
-fn larger(a: usize, b: usize) -> usize
-    requires a_bound { a ≤ 4 }
-    requires b_bound { b ≤ 4 }
-    ensures { result ≤ 4 }
-{
-    if a < b { b } else { a }
+    units & draws.set(BANNED) & draws.set(BANNED + 1)
 }
 
 // The least and the greatest number of units on in a chamber.
-#[derive(Drop)]
+#[derive(Clone, Copy, Debug)]
 struct Numbers {
     least: u8,
     greatest: u8,
 }
 
-// One more than the greatest number drawn for a chamber, whose upper set is given: any byte where none of its units may be on.
+// One more than the greatest number drawn for a chamber, whose upper set is given: any byte where none of its units
+// may be on.
 fn limit_of(upper: u64) -> usize
     ensures lower_bound { 4 < result }
     ensures upper_bound { result ≤ 256 }
@@ -46,48 +39,39 @@ fn limit_of(upper: u64) -> usize
     if upper == 0 { 256 } else { 5 }
 }
 
-// The numbers of chamber c, from 0, in step k: some set between the lower and the upper set, which have units of that chamber only, is within them.
-fn numbers_of(lower: u64, upper: u64, case: usize, k: usize, c: usize) -> Numbers
+// The numbers of chamber c, from 0: some set between the lower and the upper set, which have units of that chamber
+// only, is within them.
+fn numbers_of(lower: u64, upper: u64, draws: Draws, c: usize) -> Numbers
     requires { c ≤ 3 }
 {
-    let least = draws::between(0, size(upper), case, k, LEAST + c);
-    let low = larger(least, size(lower));
-    let greatest = low + draws::below(limit_of(upper) - low, case, k, GREATEST + c);
+    let drawn = draws.between(0, usize::from(size(upper)), LEAST + c);
+    let least = drawn.max(usize::from(size(lower)));
+    let greatest = least + draws.below(limit_of(upper) - least, GREATEST + c);
     Numbers {
         least: least as u8,
         greatest: greatest as u8,
     }
 }
 
-// The limits of step k: some set is within them.
-fn limits_of(units: u64, chambers: Chambers, case: usize, k: usize) -> ChamberLimits {
-    let upper = units & !banned(units, case, k);
-    let lower = upper & draws::set(case, k, LOWER) & draws::set(case, k, LOWER + 1);
-    let first = numbers_of(lower & chambers[0], upper & chambers[0], case, k, 0);
-    let second = numbers_of(lower & chambers[1], upper & chambers[1], case, k, 1);
-    let third = numbers_of(lower & chambers[2], upper & chambers[2], case, k, 2);
-    let fourth = numbers_of(lower & chambers[3], upper & chambers[3], case, k, 3);
-    ChamberLimits {
+// The limits of a step: some set is within them.
+fn limits_of(units: u64, chambers: &Chambers, draws: Draws) -> Limits {
+    let upper = units & !banned(units, draws);
+    let lower = upper & draws.set(LOWER) & draws.set(LOWER + 1);
+    let numbers: [Numbers; 4] = array::from_fn(|c| numbers_of(
+        lower & chambers[c],
+        upper & chambers[c],
+        draws,
+        c,
+    ));
+    Limits {
         lower,
         upper,
-        least: [first.least, second.least, third.least, fourth.least],
-        greatest: [
-            first.greatest,
-            second.greatest,
-            third.greatest,
-            fourth.greatest,
-        ],
+        least: numbers.map(|chamber| chamber.least),
+        greatest: numbers.map(|chamber| chamber.greatest),
     }
 }
 
 // The limits of all steps.
-pub fn all_limits(units: u64, chambers: Chambers, case: usize) -> [ChamberLimits; 6] {
-    [
-        limits_of(units, chambers, case, 1),
-        limits_of(units, chambers, case, 2),
-        limits_of(units, chambers, case, 3),
-        limits_of(units, chambers, case, 4),
-        limits_of(units, chambers, case, 5),
-        limits_of(units, chambers, case, 6),
-    ]
+pub fn all_limits(units: u64, chambers: &Chambers, case: usize) -> [Limits; 6] {
+    array::from_fn(|k| limits_of(units, chambers, Draws { case, step: k + 1 }))
 }

@@ -2,24 +2,15 @@
 use mathlib.Core.Path.{◌≡◌, refl, sym, ap, ap₂, ◌∙◌}
 use mathlib.Core.Logic.{◌⊎◌, inl, inr, ⊎_elim, ◌↔◌}
 use mathlib.Core.Bool.{Bool, true, false, cond, ◌||◌, false≢true}
-use mathlib.Core.List.{List}
 use Prim.Native.Nat.{ℕ, ◌<◌, ◌^◌}
 use native.Mathlib.Decide.{ℕ_discrete}
-use native.Mathlib.Nat.{zero-add}
 use native.Mathlib.Omega.{arith}
-use lib.ListN.{get_or}
-use Rattle.units.specs.Sets.{bit, union, intersection, contains, insert, remove, Lowest}
+use Rattle.units.specs.Members.{Taken}
+use Rattle.units.specs.Sets.{bit, union, intersection, contains, insert, remove}
 use Rattle.units.proofs.Sets.{bit_empty, bit_insert, bit_insert_other, bit_le, bit_remove_other, remove_subset, unit_below, union_empty_left, union_empty_right, union_insert}
-use Rattle.tables.specs.Places.{rows_in}
 use Rattle.tables.specs.Tables.{row_count, gathered, passing}
-use Rattle.tables.proofs.Gathering.{gather_done, gather_on, member_below, rest_word, equal_units}
+use Rattle.tables.proofs.Gathering.{gather_done, gather_on, equal_units}
 use Rattle.tables.proofs.Words.{bit_passing, contains_bit, contains_in, in_intersection, in_union, or_true}
-
--- ---- rows in a list
-
--- the row at place b, where the rows stand from the start on
-pub row_first : (l : List ℕ) (b : ℕ) → get_or l b 0 ≡ rows_in l 0 b
-row_first l b = ap (λ (i : ℕ). get_or l i 0) (sym (zero-add b))
 
 -- ---- a unit that is taken if a test holds
 
@@ -111,23 +102,19 @@ passing_loose set loose test word =
 pub record Finding (rows : ℕ → ℕ) (test : ℕ → Bool) (set joined passed left : ℕ) : Type 0 where
   pub joins : union joined (gathered row_count left rows) ≡ gathered row_count set rows
   pub passes : union passed (passing row_count left test) ≡ passing row_count set test
-  pub word : left < 2 ^ 64
 
 module _ (rows : ℕ → ℕ) (test : ℕ → Bool) where
   -- at first nothing has been found
-  pub finding_begun : (set : ℕ) → set < 2 ^ 64 → Finding rows test set 0 0 set
-  finding_begun set h = record { joins = union_empty_left (gathered row_count set rows); passes = union_empty_left (passing row_count set test); word = h }
+  pub finding_begun : (set : ℕ) → Finding rows test set 0 0 set
+  finding_begun set = record { joins = union_empty_left (gathered row_count set rows); passes = union_empty_left (passing row_count set test) }
 
   -- one unit
-  pub finding_on : {set joined passed left b joined' passed' left' : ℕ} → Finding rows test set joined passed left → Lowest left b
-      → joined' ≡ union joined (rows b) → passed' ≡ cond (test b) (insert passed b) passed → left' ≡ remove left b
-      → Finding rows test set joined' passed' left'
-  finding_on {set} {joined} {passed} {left} {b} f first j p r =
-      let l = member_below first f.word in
+  pub finding_on : {set joined passed left b joined' passed' rest : ℕ} → Finding rows test set joined passed left → Taken left b rest
+      → joined' ≡ union joined (rows b) → passed' ≡ cond (test b) (insert passed b) passed → Finding rows test set joined' passed' rest
+  finding_on {set} {joined} {passed} {left} {b} f (l, first, r) j p =
       record {
         joins = ap₂ (λ (x y : ℕ). union x (gathered row_count y rows)) j r ∙ gather_on rows set joined left b l first.has f.joins;
         passes = ap₂ (λ (x y : ℕ). union x (passing row_count y test)) p r ∙ pass_on test set passed left b l first.has f.passes;
-        word = omega (arith, r, rest_word first f.word);
       }
 
   -- at last all has been found

@@ -1,12 +1,15 @@
 // The rows of the backward tables, turned back over a step.
-ghost use Rattle.std.specs.Prelude.{◌≡◌, ℕ, ◌≤◌, ◌<◌, length, get_or};
-ghost use Rattle.units.specs.Sets.{bit};
-ghost use Rattle.tables.specs.Tables.{row_count, even_row, gain_row};
+ghost use Rattle.std.specs.Prelude.{◌≡◌, ℕ, ◌<◌, cond};
+ghost use Rattle.units.specs.Sets.{bit, contains, intersection};
+ghost use Rattle.tables.specs.Places.{rows_of};
+ghost use Rattle.tables.specs.Tables.{even_row, gain_row};
 
-use units::{ALL, choose, contains, intersection, lowest, union, without_lowest};
+use tables::Table;
+use units::{ALL, Units, choose, contains, intersection, union};
 
-// What the rows of a step have in common, going backward: the units with which a switch is saved before the step, those that are dispensable, those held, on
-// and new after it, and the free ones.
+// What the rows of a step have in common, going backward: the units with which there is one switch less before the
+// step, those without which there are no more, and those held, on, new and free after it.
+// With the step in place of its four sets the loop of `turn` branches on a set, and takes up to 40 % longer.
 #[derive(Clone, Copy)]
 pub struct Back {
     pub saves: u64,
@@ -17,43 +20,49 @@ pub struct Back {
     pub free: u64,
 }
 
-// The even row of unit b before a step, from its row after.
-fn even_row(back: Back, b: u32, row: u64) -> u64
-    requires { b < 64 }
-    ensures { result ≡ even_row back.saves back.dispensable back.held back.free b row }
-{
-    let dispensable = choose(contains(back.dispensable, b), ALL, 0);
-    let stays = choose(contains(back.held, b), intersection(row, back.free), 0);
-    union(back.saves, union(dispensable, stays))
-}
+impl Back {
+    // What stays of the row of unit b: the free units, where b is still held.
+    fn stays(self, b: u32, row: u64) -> u64
+        requires { b < 64 }
+        ensures { result ≡ cond (contains self.held b) (intersection row self.free) 0 }
+    {
+        choose(contains(self.held, b), intersection(row, self.free), 0)
+    }
 
-// The gain row of unit b before a step, from its row after.
-fn gain_row(back: Back, b: u32, row: u64) -> u64
-    requires { b < 64 }
-    ensures { result ≡ gain_row back.saves back.dispensable back.held back.free back.on back.new b row }
-{
-    let leaves = choose(contains(back.on, b), 0, back.saves);
-    let dispensable = choose(contains(back.dispensable, b), back.new, 0);
-    let stays = choose(contains(back.held, b), intersection(row, back.free), 0);
-    union(leaves, union(dispensable, stays))
-}
+    // The even row of unit b before the step, from its row after.
+    #[tactic(auto, unfolding(tables::specs::Tables::even_row))]
+    fn even_row(self, b: u32, row: u64) -> u64
+        requires { b < 64 }
+        ensures { result ≡ even_row self.saves self.dispensable self.held self.free b row }
+    {
+        let dispensable = choose(contains(self.dispensable, b), ALL, 0);
+        union(self.saves, union(dispensable, self.stays(b, row)))
+    }
 
-// Turns the rows of the units of a set back over a step.
-pub fn turn_back(even: &mut [u64], gain: &mut [u64], back: Back, set: u64)
-    requires row_count_in_bounds { row_count ≤ length even.old }
-    requires row_count_in_bounds_2 { row_count ≤ length gain.old }
-    ensures by_index { (b : ℕ) → bit set b ≡ 1
-        → get_or even.new b 0 ≡ even_row back.saves back.dispensable back.held back.free b (get_or even.old b 0) }
-    ensures by_index_2 { (b : ℕ) → bit set b ≡ 1
-        → get_or gain.new b 0
-        ≡ gain_row back.saves back.dispensable back.held back.free back.on back.new b (get_or gain.old b 0) }
-{
-    let mut left = set;
-    while 0 < left {
-        let b = lowest(left);
-        let u = b as usize;
-        even[u] = even_row(back, b, even[u]);
-        gain[u] = gain_row(back, b, gain[u]);
-        left = without_lowest(left);
+    // The gain row of unit b before the step, from its row after.
+    #[tactic(auto, unfolding(tables::specs::Tables::gain_row))]
+    fn gain_row(self, b: u32, row: u64) -> u64
+        requires { b < 64 }
+        ensures { result ≡ gain_row self.saves self.dispensable self.held self.free self.on self.new b row }
+    {
+        let leaves = choose(contains(self.on, b), 0, self.saves);
+        let dispensable = choose(contains(self.dispensable, b), self.new, 0);
+        union(leaves, union(dispensable, self.stays(b, row)))
+    }
+
+    // Turns the rows of the units of a set back over the step.
+    pub fn turn(self, even: &mut Table, gain: &mut Table, set: u64)
+        ensures even_turned { (b : ℕ) → bit set b ≡ 1
+            → rows_of even.new b
+            ≡ even_row self.saves self.dispensable self.held self.free b (rows_of even.old b) }
+        ensures gain_turned { (b : ℕ) → bit set b ≡ 1
+            → rows_of gain.new b
+            ≡ gain_row self.saves self.dispensable self.held self.free self.on self.new b (rows_of gain.old b) }
+    {
+        for b in Units::of(set) {
+            let u = b as usize;
+            even[u] = self.even_row(b, even[u]);
+            gain[u] = self.gain_row(b, gain[u]);
+        }
     }
 }

@@ -1,25 +1,25 @@
--- A chamber of a sheet that was read: what is known of it, and of the words that are decoded of it, which are lent to the planner. Those have the sizes of the
--- chamber's feasible sets in the place of its two numbers.
+-- A chamber of a sheet that was read: what is known of it, and of the steps that are decoded of it, which are lent to
+-- the planner. Those have the sizes of the chamber's feasible sets in the place of its two numbers.
 use mathlib.Core.Path.{◌≡◌, refl, sym, ap, ◌∙◌}
 use mathlib.Core.List.{List, map, Memᴰ}
-use Prim.Native.Nat.{ℕ, ◌-◌, ◌*◌, ◌≤◌, ◌<◌}
+use Prim.Native.Nat.{ℕ, ◌≤◌, ◌<◌}
 use native.Mathlib.Omega.{arith}
-use lib.ListN.{length, length-map, replicate, take}
-use lib.Seq.{sets}
-use Rattle.chambers.specs.Chambers.{chamber, sum, dealt, part_of, parts_of}
+use lib.ListN.{length, get_or, length-map, replicate, take, drop}
+use lib.Seq.{sets, take_at}
+use Rattle.chambers.specs.Chambers.{Chamber, chamber, sum, dealt, part_of, parts_of}
 use Rattle.chambers.specs.Parts.{plan_of, total_of}
 use Rattle.chambers.proofs.Among.{chamber_at}
 use Rattle.chambers.proofs.Bench.{chambers_satisfied}
 use Rattle.chambers.proofs.Whole.{support_long, empty_support}
-use Rattle.plans.specs.Rows.{rows_of, steps_in, Rows}
+use Rattle.plans.specs.declared.Limits.{Limits}
+use Rattle.plans.specs.Steps.{step_limit}
 use Rattle.plans.specs.Switch.{Satisfiable, sized}
-use Rattle.plans.proofs.Laid.{rows_length, rows_steps, rows_laid, sets_first, sets_part}
+use Rattle.plans.proofs.Laid.{sets_first}
 use Rattle.plans.proofs.Orders.{tie_ordered}
 use Rattle.plans.proofs.Sized.{sized_satisfiable}
 use Rattle.format.specs.declared.Header.{Header}
 use Rattle.format.specs.declared.Summary.{Summary}
 use Rattle.format.specs.Answer.{Given}
-use Rattle.format.specs.Chain.{steps_from}
 use Rattle.format.specs.Format.{unit_limit, chamber_count, sizes_list, chambers_in, limits_of, start_of}
 use Rattle.format.specs.Reading.{steps_of}
 use Rattle.format.specs.Stages.{summary_read}
@@ -29,16 +29,28 @@ use Rattle.promises.proofs.Plans.{plan_length_on}
 use Rattle.promises.proofs.Read.{was_opened, many_steps, bench}
 use Rattle.campaign.specs.Benches.{units_on, chamber_on}
 
--- words that were put into the first places are there
-taken_again : (words : List ℕ) (n : ℕ) → length words ≡ n → (before : List ℕ) {made : List ℕ} → made ≡ sets before 0 words → n ≤ length before → take n made ≡ words
-taken_again words n long before {made} is h =
-    let all : n ≡ n - 0 = omega arith in
-    ap (λ (k : ℕ). take k made) all ∙ ap (take (n - 0)) is ∙ sets_part words before n long h
+-- what was put into the first places is there
+taken_again : {A : Type 0} (words : List A) (n : ℕ) → length words ≡ n → (before : List A) {made : List A} → made ≡ sets before 0 words → n ≤ length before
+    → take n made ≡ words
+taken_again words n long before {made} is h = ap (take n) (is ∙ sets_first words before (omega arith)) ∙ take_at words (drop (length words) before) n long
 
 -- there are four chambers
 pub four_dealt : (s : List ℕ) → length (units_on s) ≡ chamber_count
 unfolding dealt
 four_dealt s = refl
+
+-- what is number c of the sheet's chambers is that chamber of the sheet
+pub own_chamber : (s : List ℕ) (c : ℕ) {us : List ℕ} → us ≡ units_on s → {here : Chamber} → here ≡ chamber c (get_or us c 0) → here ≡ chamber_on s here.number
+own_chamber s c dealt is =
+    let own = is ∙ ap (λ us. chamber c (get_or us c 0)) dealt in
+    own ∙ ap (chamber_on s) (sym (ap (λ d. d.number) own))
+
+-- a chamber whose number and units are these has one of the four numbers, and the units of the sheet's chamber
+pub few_numbers : {these here : Chamber} → these ≡ here → these.number < chamber_count → here.number < chamber_count
+few_numbers e few = omega (arith, ap (λ d. d.number) e, few)
+
+pub own_units : (s : List ℕ) {c : ℕ} {these here : Chamber} → these ≡ here → here ≡ chamber_on s c → these.units ≡ (chamber_on s c).units
+own_units s e own = ap (λ d. d.units) (e ∙ own)
 
 module _ (s : List ℕ) {x : Summary} (e : summary_read s ≡ Given x) where
   -- the chambers that are dealt out by the header are those of the sheet, and have at most 64 units
@@ -86,36 +98,19 @@ module _ (s : List ℕ) {x : Summary} (e : summary_read s ≡ Given x) where
         → take x.steps made ≡ plan_of (chamber_on s c) (start_of s) (limits_on s)
     part_taken = taken_again (plan_of (chamber_on s c) (start_of s) (limits_on s)) x.steps part_long
 
-    -- the words: four for each step
+    -- its steps, as the planner takes them
     pub many_parts : length (sized_in s (chamber_on s c)) ≡ x.steps
     many_parts = length-map (parts_of (chamber_on s c) (limits_on s)) sized ∙ length-map (limits_on s) (part_of (chamber_on s c)) ∙ many_limits
 
-    rows_many : length (rows_of (sized_in s (chamber_on s c))) ≡ 4 * x.steps
-    rows_many = rows_length (sized_in s (chamber_on s c)) ∙ ap (λ (k : ℕ). 4 * k) many_parts
+    pub few_parts : length (sized_in s (chamber_on s c)) ≤ step_limit
+    few_parts = omega (arith, many_parts, (was_opened s e).few)
 
-    pub rows_are : steps_in (rows_of (sized_in s (chamber_on s c))) ≡ sized_in s (chamber_on s c)
-    rows_are = rows_steps (sized_in s (chamber_on s c))
+    pub parts_satisfiable : Satisfiable (sized_in s (chamber_on s c))
+    parts_satisfiable = sized_satisfiable (parts_of (chamber_on s c) (limits_on s)) satisfiable_in
 
-    pub rows_sound : Rows (rows_of (sized_in s (chamber_on s c)))
-    rows_sound = rows_laid (sized_in s (chamber_on s c)) (omega (arith, many_parts, (was_opened s e).few))
-
-    pub rows_satisfiable : Satisfiable (sized_in s (chamber_on s c))
-    rows_satisfiable = sized_satisfiable (parts_of (chamber_on s c) (limits_on s)) satisfiable_in
-
-    -- what the first places hold of words that were decoded
-    module _ (units : ℕ) (own : units ≡ (chamber_on s c).units) (before : List ℕ) {rows : List ℕ}
-        (filled : rows ≡ sets before 0 (rows_of (map sized (parts_of (chamber c units) (map limits_of (steps_from s 0 x.steps)))))) (room : 4 * x.steps ≤ length before) where
-      as_decoded : rows ≡ sets before 0 (rows_of (sized_in s (chamber_on s c)))
-      as_decoded =
-          filled
-          ∙ ap (λ (u : ℕ). sets before 0 (rows_of (map sized (parts_of (chamber c u) (map limits_of (steps_from s 0 x.steps)))))) own
-          ∙ ap (λ xs. sets before 0 (rows_of (map sized (parts_of (chamber_on s c) (map limits_of xs))))) (was_opened s e).steps
-
-      pub decoded : take (4 * x.steps) rows ≡ rows_of (sized_in s (chamber_on s c))
-      decoded = taken_again (rows_of (sized_in s (chamber_on s c))) (4 * x.steps) rows_many before as_decoded room
-
-      -- and what is lent of them
-      pub lent : take (4 * x.steps - 0) rows ≡ rows_of (sized_in s (chamber_on s c))
-      lent =
-          let all : 4 * x.steps - 0 ≡ 4 * x.steps = omega arith in
-          ap (λ (k : ℕ). take k rows) all ∙ decoded
+    -- the first places hold them, where they were decoded
+    pub decoded : {here : Chamber} → here ≡ chamber_on s c → (before : List Limits) {steps : List Limits}
+        → steps ≡ sets before 0 (map sized (parts_of here (limits_on s))) → x.steps ≤ length before → take x.steps steps ≡ sized_in s (chamber_on s c)
+    decoded own before filled room =
+        taken_again (sized_in s (chamber_on s c)) x.steps many_parts before
+        (filled ∙ ap (λ d. sets before 0 (map sized (parts_of d (limits_on s)))) own) room

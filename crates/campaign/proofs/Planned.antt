@@ -1,10 +1,10 @@
 -- The loop that plans one chamber after the other, from the last to the first (`Made`): the plans of the chambers that
 -- it has come to are joined and their totals added, and with those of the chambers before them they are the plan of
 -- all.
-use mathlib.Core.Path.{◌≡◌, refl, sym, ap, ◌∙◌}
+use mathlib.Core.Path.{◌≡◌, refl, sym, ap, subst, ◌∙◌}
 use mathlib.Core.List.Memᴰ
 use mathlib.Core.List.{List, [], ◌++◌, map}
-use Prim.Native.Nat.{ℕ, zero, suc, ◌+◌, ◌*◌, ◌≤◌, ◌<◌}
+use Prim.Native.Nat.{ℕ, zero, suc, ◌+◌, ◌-◌, ◌*◌, ◌≤◌, ◌<◌}
 use native.Mathlib.Nat.{mul-le-mul_left, zero-add}
 use native.Mathlib.Omega.{arith}
 use lib.ListN.{length, get_or, replicate, take, drop, take-append-drop}
@@ -89,25 +89,35 @@ module _ (s : List ℕ) {x : Summary} (e : summary_read s ≡ Given x) (before :
         counted = zero-add _;
       }
 
-  module _ {now : List ℕ} {many c : ℕ} (g : Made s x.steps before now many (suc c)) (few : c < chamber_count) where
-    -- the plan of chamber number c
-    abbrev part : List ℕ
-    part = plan_of (chamber_on s c) (start_of s) (limits_on s)
+  module _ {now : List ℕ} {many c : ℕ} (begun : Made s x.steps before now many c) (more : 0 < c) (few : c ≤ chamber_count) where
+    -- the number of the chamber that is come to
+    abbrev here : ℕ
+    here = c - 1
 
-    pub made_on : {after : List ℕ} {more : ℕ} → after ≡ sets now 0 (joined part (take x.steps now)) → more ≡ total_of (chamber_on s c) (start_of s) (limits_on s)
-        → Made s x.steps before after (many + more) c
+    below : here < chamber_count
+    below = omega arith
+
+    g : Made s x.steps before now many (suc here)
+    g = let next : c ≡ suc here = omega arith in subst (Made s x.steps before now many) next begun
+
+    -- its plan
+    abbrev part : List ℕ
+    part = plan_of (chamber_on s here) (start_of s) (limits_on s)
+
+    pub made_on : {after : List ℕ} {more : ℕ} → after ≡ sets now 0 (joined part (take x.steps now)) → more ≡ total_of (chamber_on s here) (start_of s) (limits_on s)
+        → Made s x.steps before after (many + more) here
     made_on {after} {more} is total =
-        let at : get_or (plans s) c [] ≡ part = numbered_at (λ d. plan_of d (start_of s) (limits_on s)) (units_on s) c [] (omega (arith, four_dealt s)) in
+        let at : get_or (plans s) here [] ≡ part = numbered_at (λ d. plan_of d (start_of s) (limits_on s)) (units_on s) here [] (omega (arith, below, four_dealt s)) in
         let long = numbered_long (λ d. plan_of d (start_of s) (limits_on s)) 0 (units_on s) in
-        let same = all_up_to x.steps (plans s) c (omega (arith, long, four_dealt s)) ∙ ap (λ p. joined p (joined_all x.steps (take c (plans s)))) at in
+        let same = all_up_to x.steps (plans s) here (omega (arith, below, long, four_dealt s)) ∙ ap (λ p. joined p (joined_all x.steps (take here (plans s)))) at in
         record {
-          joining = joining_on g.joining room part (take c (plans s)) after (part_long s e c few) same is;
-          counted = omega (arith, g.counted, total, sum_up_to s c few);
+          joining = joining_on g.joining room part (take here (plans s)) after (part_long s e here below) same is;
+          counted = omega (arith, g.counted, total, sum_up_to s here below);
         }
 
     -- the sum does not run over
-    pub made_fits : {more : ℕ} → more ≡ total_of (chamber_on s c) (start_of s) (limits_on s) → many + more ≤ 16384
-    made_fits total = omega (arith, g.counted, total, sum_up_to s c few, sum_few s e)
+    pub made_fits : {more : ℕ} → more ≡ total_of (chamber_on s here) (start_of s) (limits_on s) → many + more ≤ 16384
+    made_fits total = omega (arith, g.counted, total, sum_up_to s here below, sum_few s e)
 
   pub made_done : {now : List ℕ} {many : ℕ} → Made s x.steps before now many 0 → (now ≡ sets before 0 (support_on s)) × (many ≡ total (start_of s) (support_on s))
   unfolding support_on support_in_by sum_of

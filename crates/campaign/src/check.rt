@@ -1,18 +1,16 @@
 // The check of a plan made elsewhere: whether each step's set is feasible, and how many switches it makes.
-ghost use Rattle.std.specs.Prelude.{◌≡◌, true, ◌&&◌, ◌<◌, leb, length};
+ghost use Rattle.std.specs.Prelude.{◌≡◌, true, length};
 ghost use Rattle.units.specs.Sets.{is_subset, intersection, size};
-ghost use Rattle.chambers.specs.Chambers.{chamber, numbered, count_fits, counts, fits};
+ghost use Rattle.chambers.specs.Chambers.{numbered, count_fits, counts, fits};
 ghost use Rattle.plans.specs.Plans.{is_feasible};
 ghost use Rattle.plans.specs.Switch.{total};
-ghost use Rattle.format.specs.Answer.{Given};
-ghost use Rattle.format.specs.Format.{chamber_count, limits_of, start_of};
-ghost use Rattle.format.specs.Stages.{summary_read};
+ghost use Rattle.format.specs.Format.{limits_of, start_of};
 ghost use Rattle.promises.specs.Common.{limits_on, fits_on};
 
-use format::{ChamberStep, Summary};
-use sheet::parts::{Chambers, deal, part_sizes};
-use sheet::record::{follow, is_first, step_at};
-use units::{Sizes, difference, intersection, is_subset, size};
+use format::ChamberStep;
+use sheet::Sheet;
+use sheet::parts::{Chamber, Chambers, deal, part_sizes};
+use units::{difference, intersection, is_subset, size};
 
 // What is known of a plan: whether it is feasible, and its total, feasible or not.
 #[derive(Drop)]
@@ -31,92 +29,56 @@ fn count_in(set: u64, units: u64) -> u32
     size(intersection(set, units))
 }
 
-// Whether a number lies from the one to the other.
-fn lies_between(k: u32, few: u32, many: u32) -> bool
-    ensures { result ≡ (leb few k && leb k many) }
+// Whether a set between the lower and the upper set of a step has in a chamber a number of units from the least to the
+// greatest that the step asks for there: whether it is one of the sizes of the chamber's part of the step.
+fn count_fits(x: ChamberStep, chamber: Chamber, set: u64) -> bool
+    requires lower_in_set { is_subset x.lower set ≡ true }
+    requires set_in_upper { is_subset set x.upper ≡ true }
+    ensures { result ≡ count_fits chamber (limits_of x) set }
 {
-    if k < few {
+    let Some(sizes) = part_sizes(x, chamber) else {
         return false;
-    }
-    k <= many
-}
-
-// Whether a set between the lower and the upper set of a step has in chamber number c, which has these units, a number
-// of units from the least to the greatest that the step asks for there: whether it is one of the sizes of the
-// chamber's part of the step.
-fn count_fits(x: ChamberStep, c: usize, units: u64, set: u64) -> bool
-    requires c_lt_chamber_count { c < chamber_count }
-    requires set_value { is_subset x.lower set ≡ true }
-    requires upper_value { is_subset set x.upper ≡ true }
-    ensures { result ≡ count_fits (chamber c units) (limits_of x) set }
-{
-    match part_sizes(x, c, units) {
-        Sizes::Between(few, many) => lies_between(count_in(set, units), few, many),
-        Sizes::NoSet => false,
-    }
+    };
+    (sizes.few..=sizes.many).contains(&count_in(set, chamber.units))
 }
 
 // Whether it does so in each chamber.
 fn counts_fit(x: ChamberStep, chambers: Chambers, set: u64) -> bool
-    requires set_value { is_subset x.lower set ≡ true }
-    requires upper_value { is_subset set x.upper ≡ true }
+    requires lower_in_set { is_subset x.lower set ≡ true }
+    requires set_in_upper { is_subset set x.upper ≡ true }
     ensures { result ≡ counts (numbered 0 chambers.units) (limits_of x) set }
 {
-    let us = chambers.units;
-    if !count_fits(x, 0, us[0], set) {
-        return false;
-    }
-    if !count_fits(x, 1, us[1], set) {
-        return false;
-    }
-    if !count_fits(x, 2, us[2], set) {
-        return false;
-    }
-    count_fits(x, 3, us[3], set)
+    // Four calls: a loop stays one in the compiled code, which copies the numbers of the step for each chamber.
+    count_fits(x, chambers.at(0), set)
+        && count_fits(x, chambers.at(1), set)
+        && count_fits(x, chambers.at(2), set)
+        && count_fits(x, chambers.at(3), set)
 }
 
-// Whether a set is feasible in a step.
+// Whether a set is feasible in a step. Chambers, step and set are given one by one, as `fits` of the definitions has
+// them.
+#[tactic(auto, unfolding(chambers::specs::Chambers::fits))]
 fn set_fits(x: ChamberStep, chambers: Chambers, set: u64) -> bool
     ensures { result ≡ fits (numbered 0 chambers.units) (limits_of x) set }
 {
-    if !is_subset(x.lower, set) {
-        return false;
-    }
-    if !is_subset(set, x.upper) {
-        return false;
-    }
-    counts_fit(x, chambers, set)
+    is_subset(x.lower, set) && is_subset(set, x.upper) && counts_fit(x, chambers, set)
 }
 
-// Whether both are so.
-fn both(a: bool, b: bool) -> bool
-    ensures { result ≡ (a && b) }
+// The check of a plan that has a word for each step of a sheet.
+pub fn check_read(sheet: Sheet, plan: &[u64]) -> Checked
+    requires { length plan.now ≡ sheet.summary.steps }
+    ensures feasible_value { result.feasible ≡ is_feasible (fits_on sheet.entry.bytes.now) (limits_on sheet.entry.bytes.now) plan.now }
+    ensures total_value { result.total ≡ total (start_of sheet.entry.bytes.now) plan.now }
 {
-    if a { b } else { false }
-}
-
-// The check of a plan that has a word for each step of a sheet that was read.
-pub fn check_read(sheet: &[u8], x: Summary, plan: &[u64]) -> Checked
-    requires sheet_value { summary_read sheet.now ≡ Given x }
-    requires plan_len { length plan.now ≡ x.steps }
-    ensures feasible_value { result.feasible ≡ is_feasible (fits_on sheet.now) (limits_on sheet.now) plan.now }
-    ensures total_value { result.total ≡ total (start_of sheet.now) plan.now }
-{
-    let header = x.header;
+    let header = sheet.summary.header;
     let chambers = deal(header.sizes);
-    let first = is_first(sheet);
-    let mut at = 0;
     let mut before = header.start;
     let mut feasible = true;
     let mut total = 0;
-    let mut i = 0;
-    while i < plan.len() {
-        let set = plan[i];
-        at = follow(sheet, first, at);
-        feasible = both(feasible, set_fits(step_at(sheet, first, at), chambers, set));
-        total += size(difference(set, before));
-        before = set;
-        i += 1;
+    for (step, set) in sheet.steps().zip(plan) {
+        feasible &= set_fits(step, chambers, *set);
+        total += size(difference(*set, before));
+        before = *set;
     }
     Checked { feasible, total }
 }

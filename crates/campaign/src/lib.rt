@@ -5,73 +5,58 @@
 
 pub mod check;
 
-ghost use Rattle.std.specs.Prelude.{◌≡◌, ◌*◌, ◌≤◌, ◌<◌, length};
+ghost use Rattle.std.specs.Prelude.{◌≡◌, ◌≤◌, length};
 ghost use Rattle.std.proofs.lemmas.List.Edits.{sets};
-ghost use Rattle.plans.specs.Rows.{row_size};
 ghost use Rattle.plans.specs.Switch.{total};
-ghost use Rattle.format.specs.Answer.{Given};
-ghost use Rattle.format.specs.Format.{chamber_count, start_of};
-ghost use Rattle.format.specs.Stages.{summary_read};
+ghost use Rattle.format.specs.Format.{start_of};
 ghost use Rattle.promises.specs.Plan.{support_on};
 ghost use Rattle.campaign.specs.Benches.{chamber_on, DecodedIn, plan_on, total_on, joined_to};
 
-use format::Summary;
 use plans::Limits;
 use sheet::Sheet;
 use sheet::decode::decode;
-use sheet::parts::deal;
+use sheet::parts::{Chamber, deal};
 use switch::plan::plan;
 use units::intersection;
 use words::clear;
 
-// Joins the plan of chamber number c, which has these units, to the first places of `out`, and gives its total. Its
-// words stay in the first places of `rows`, unless the chamber is empty.
-fn join_chamber(
-    sheet: &[u8],
-    x: Summary,
-    c: usize,
-    units: u64,
-    rows: &mut [u64],
-    out: &mut [u64],
-) -> u32
-    requires sheet_value { summary_read sheet.now ≡ Given x }
-    requires c_lt_chamber_count { c < chamber_count }
-    requires units_value { units ≡ (chamber_on sheet.now c).units }
-    requires steps_in_bounds { row_size * x.steps ≤ length rows.old }
-    requires steps_in_bounds_2 { x.steps ≤ length out.old }
-    ensures decoded_in { DecodedIn sheet.now x.steps (chamber_on sheet.now c) rows.new }
-    ensures out_after { out.new ≡ joined_to x.steps (plan_on sheet.now c) out.old }
-    ensures value { result ≡ total_on sheet.now c }
+// Joins the plan of a chamber of the sheet to the first places of `out`, and gives its total. Its steps stay in the
+// first places of `steps`, unless the chamber is empty.
+fn join_chamber(sheet: Sheet, chamber: Chamber, steps: &mut [Limits], out: &mut [u64]) -> u32
+    requires chamber_of_sheet { chamber ≡ chamber_on sheet.bytes.now chamber.number }
+    requires room_in_steps { sheet.summary.steps ≤ length steps.old }
+    requires room_in_out { sheet.summary.steps ≤ length out.old }
+    ensures decoded_in { DecodedIn sheet.entry.bytes.now sheet.entry.summary.steps (chamber_on sheet.entry.bytes.now chamber.number) steps.new }
+    ensures out_after { out.new ≡ joined_to sheet.entry.summary.steps (plan_on sheet.entry.bytes.now chamber.number) out.old }
+    ensures value { result ≡ total_on sheet.entry.bytes.now chamber.number }
 {
+    let units = chamber.units;
     if units == 0 {
         return 0;
     }
-    let n = x.steps as usize;
-    decode(sheet, n, c, units, rows);
-    let end = Limits::WORDS * n;
-    let header = x.header;
-    plan(&rows[0..end], intersection(header.start, units), out)
+    let n = sheet.summary.steps as usize;
+    decode(sheet, chamber, steps);
+    plan(
+        &steps[..n],
+        intersection(sheet.summary.header.start, units),
+        out,
+    )
 }
 
-// The plan of a sheet that was read, into the first places of `out`, and its total. It works in `rows`, whose first
-// places then have the words of the first chamber, unless that is empty.
-pub fn plan_read(sheet: &[u8], x: Summary, rows: &mut [u64], out: &mut [u64]) -> u32
-    requires sheet_value { summary_read sheet.now ≡ Given x }
-    requires steps_in_bounds { row_size * x.steps ≤ length rows.old }
-    requires steps_in_bounds_2 { x.steps ≤ length out.old }
-    ensures decoded_in { DecodedIn sheet.now x.steps (chamber_on sheet.now 0) rows.new }
-    ensures out_after { out.new ≡ sets out.old 0 (support_on sheet.now) }
-    ensures value { result ≡ total (start_of sheet.now) (support_on sheet.now) }
+// The plan of a sheet, into the first places of `out`, and its total. It works in `steps`, whose first places then
+// have the steps of the first chamber, unless that is empty.
+pub fn plan_read(sheet: Sheet, steps: &mut [Limits], out: &mut [u64]) -> u32
+    requires room_in_steps { sheet.summary.steps ≤ length steps.old }
+    requires room_in_out { sheet.summary.steps ≤ length out.old }
+    ensures decoded_in { DecodedIn sheet.entry.bytes.now sheet.entry.summary.steps (chamber_on sheet.entry.bytes.now 0) steps.new }
+    ensures out_after { out.new ≡ sets out.old 0 (support_on sheet.entry.bytes.now) }
+    ensures value { result ≡ total (start_of sheet.entry.bytes.now) (support_on sheet.entry.bytes.now) }
 {
-    let header = x.header;
-    let chambers = deal(header.sizes);
-    let us = chambers.units;
-    clear(out, x.steps as usize);
+    let chambers = deal(sheet.summary.header.sizes);
+    clear(out, sheet.summary.steps as usize);
     let mut total = 0;
-    let mut c = Sheet::CHAMBERS;
-    while 0 < c {
-        c -= 1;
-        total += join_chamber(sheet, x, c, us[c], rows, out);
+    for c in (0..Sheet::CHAMBERS).rev() {
+        total += join_chamber(sheet, chambers.at(c), steps, out);
     }
     total
 }

@@ -1,96 +1,16 @@
-// Reads the sheets at the edges of the format that the requirements name, and writes what the reader answers to each. The file stdout has
-// what it must answer, as the requirements say it.
+// Reads the sheets at the edges of the format that the requirements name, and writes what the reader answers to
+// each. The file stdout has what it must answer, as the requirements say it.
 #![tactic(auto)]
 
-ghost use Rattle.std.specs.Prelude.{false, ◌+◌, ◌≤◌, ◌<◌};
-ghost use Rattle.format.specs.Format.{record_size, longest};
+ghost use Rattle.std.specs.Prelude.{◌≤◌};
 
-use sheet::{ReadAnswer, Sheet};
+use sheet::open::read;
 use std::io;
-use trials::layout::{
-    ChamberLimits, Head, Limits, SPACE, Space, chamber_length_of, put_chamber_head,
-    put_chamber_limits, put_chamber_link, put_head, put_limits, put_link, put_most_chamber_steps,
-    put_most_steps, put_reserved,
-};
-
-// The bytes of a sheet of edition 1 with one record.
-const ONE_RECORD: usize = Sheet::HEADER_SIZE + Sheet::RECORD_SIZE;
-
-// Puts a header with so many units and records.
-fn put_numbers(bytes: &mut Space, units: usize, records: usize)
-    requires units_bound { units < 256 }
-    requires records_bound { records < 65536 }
-{
-    put_head(
-        bytes,
-        Head {
-            units,
-            records,
-            bound: 0,
-            start: 0,
-        },
-    );
-}
-
-// The limits of a step in which any set within the upper set may be on.
-fn any_of(upper: u64) -> Limits {
-    Limits {
-        lower: 0,
-        upper,
-        least: 0,
-        greatest: u8::MAX,
-    }
-}
-
-// Writes a refusal.
-fn write_refusal(out: &impl Print, number: u64, place: u64) -> io::Result<()> {
-    out.write_all(b": refusal ")?;
-    out.print(number)?;
-    out.write_all(b", place ")?;
-    out.print(place)?;
-    out.write_all(b"\n")
-}
-
-// Writes a line: the name of a sheet, and what the reader answers to so many bytes of it.
-fn report(out: &impl Print, name: &[u8], bytes: &Space, length: usize) -> io::Result<()>
-    requires { length ≤ longest + record_size false }
-{
-    let whole: &[u8] = bytes;
-    out.write_all(name)?;
-    match sheet::open::read(&whole[0..length]) {
-        ReadAnswer::Refused(x) => write_refusal(out, x.number as u64, x.place as u64),
-        ReadAnswer::Read(_) => out.write_all(b": passes\n"),
-    }
-}
-
-// Fewer bytes than a header has, the longest sheet of edition 1, a byte more, which no header goes with, and more bytes than any sheet has. The numbers are those of
-// the requirements, and not the reader's own.
-fn report_lengths(out: &impl Print) -> io::Result<()> {
-    let mut bytes = [0u8; SPACE];
-    put_numbers(&mut bytes, 1, 256);
-    put_most_steps(&mut bytes, any_of(1), any_of(1));
-    report(out, b"length 23", &bytes, 23)?;
-    report(out, b"length 6168", &bytes, 6168)?;
-    report(out, b"length 6169", &bytes, 6169)?;
-    report(out, b"length 8217", &bytes, 8217)
-}
-
-// A sheet of so many units with one step, which has that upper set.
-fn report_upper(out: &impl Print, name: &[u8], units: usize, upper: u64) -> io::Result<()>
-    requires { units < 256 }
-{
-    let mut bytes = [0u8; SPACE];
-    put_numbers(&mut bytes, units, 1);
-    put_link(&mut bytes, 0, 1);
-    put_limits(&mut bytes, 1, any_of(upper));
-    report(out, name, &bytes, ONE_RECORD)
-}
-
-// ---- edition 2
+use trials::layout::{Edition, Head, Limits, SheetBytes};
 
 // The limits of a step in which any set within the upper set may be on, in whatever chambers.
-fn any_in(upper: u64) -> ChamberLimits {
-    ChamberLimits {
+fn any_of(upper: u64) -> Limits {
+    Limits {
         lower: 0,
         upper,
         least: [0; 4],
@@ -98,128 +18,155 @@ fn any_in(upper: u64) -> ChamberLimits {
     }
 }
 
-// The longest sheet, and a byte more.
-fn report_chamber_lengths(out: &impl Print) -> io::Result<()> {
-    let mut bytes = [0u8; SPACE];
-    put_chamber_head(
-        &mut bytes,
-        Head {
-            units: 1,
-            records: 256,
-            bound: 0,
-            start: 0,
-        },
-        [1, 0, 0, 0],
-    );
-    put_most_chamber_steps(&mut bytes, any_in(1));
-    report(out, b"edition 2, length 8216", &bytes, 8216)?;
-    report(out, b"edition 2, length 8217", &bytes, 8217)
+// The limits of such a step that asks for a unit of chamber 2.
+fn some_of_second(upper: u64) -> Limits {
+    Limits {
+        least: [0, 1, 0, 0],
+        ..any_of(upper)
+    }
 }
 
-// Puts a sheet of so many units, with chambers of these sizes, one step, in record 1, and a spare record.
-fn put_chambers(bytes: &mut Space, units: usize, sizes: [u8; 4], limits: ChamberLimits)
-    requires { units < 256 }
-{
-    put_chamber_head(
-        bytes,
-        Head {
-            units,
-            records: 2,
-            bound: 0,
-            start: 0,
-        },
+// Writes a line: the name of a sheet, and what the reader answers to it.
+fn report(rt: &impl Print, name: &str, sheet: &[u8]) -> io::Result<()> {
+    match read(sheet) {
+        Ok(_) => println!(rt; "{name}: passes"),
+        Err(refusal) => {
+            println!(rt;
+                "{name}: refusal {}, place {}",
+                refusal.cause.number(),
+                refusal.place
+            )
+        }
+    }
+}
+
+// The longest sheet of an edition, of one unit.
+fn longest(edition: Edition) -> SheetBytes {
+    let head = Head {
+        units: 1,
+        records: 256,
+        sizes: [1, 0, 0, 0],
+        ..Head::default()
+    };
+    let mut sheet = SheetBytes::new(edition, head);
+    sheet.put_steps(&[any_of(1)]);
+    sheet
+}
+
+// Fewer bytes than a header has, the longest sheet of edition 1, a byte more, which no header goes with, and more
+// bytes than any sheet has. The numbers are those of the requirements, and not the reader's own.
+fn report_lengths(rt: &impl Print) -> io::Result<()> {
+    let sheet = longest(Edition::First);
+    report(rt, "length 23", sheet.first(23))?;
+    report(rt, "length 6168", sheet.first(6168))?;
+    report(rt, "length 6169", sheet.first(6169))?;
+    report(rt, "length 8217", sheet.first(8217))
+}
+
+// A sheet of so many units with one step, which has that upper set.
+fn report_upper(rt: &impl Print, name: &str, units: u8, upper: u64) -> io::Result<()> {
+    let head = Head {
+        units,
+        records: 1,
+        ..Head::default()
+    };
+    let mut sheet = SheetBytes::new(Edition::First, head);
+    sheet.put_steps(&[any_of(upper)]);
+    report(rt, name, sheet.whole())
+}
+
+// ---- edition 2
+
+// The longest sheet, and a byte more.
+fn report_chamber_lengths(rt: &impl Print) -> io::Result<()> {
+    let sheet = longest(Edition::Second);
+    report(rt, "edition 2, length 8216", sheet.first(8216))?;
+    report(rt, "edition 2, length 8217", sheet.first(8217))
+}
+
+// A sheet of so many units, with chambers of these sizes, one step, in record 1, and a spare record.
+fn chambered(units: u8, sizes: [u8; 4], limits: Limits) -> SheetBytes {
+    let head = Head {
+        units,
+        records: 2,
         sizes,
-    );
-    put_chamber_link(bytes, 0, 1);
-    put_chamber_limits(bytes, 1, limits);
+        ..Head::default()
+    };
+    let mut sheet = SheetBytes::new(Edition::Second, head);
+    sheet.put_link(0, 1);
+    sheet.put_limits(1, limits);
+    sheet
 }
 
 // Such a sheet.
 fn report_chambers(
-    out: &impl Print,
-    name: &[u8],
-    units: usize,
+    rt: &impl Print,
+    name: &str,
+    units: u8,
     sizes: [u8; 4],
-    limits: ChamberLimits,
-) -> io::Result<()>
-    requires { units < 256 }
-{
-    let mut bytes = [0u8; SPACE];
-    put_chambers(&mut bytes, units, sizes, limits);
-    report(out, name, &bytes, chamber_length_of(2))
+    limits: Limits,
+) -> io::Result<()> {
+    report(rt, name, chambered(units, sizes, limits).whole())
 }
 
 // Such a sheet, of two units in chambers 1 and 3, with 256 in the bytes of record j that are zero.
-fn report_reserved(out: &impl Print, name: &[u8], j: usize, upper: u64) -> io::Result<()>
-    requires j_nonzero { 0 < j }
-    requires j_bound { j ≤ 2 }
+fn report_reserved(rt: &impl Print, name: &str, j: usize, upper: u64) -> io::Result<()>
+    requires { j ≤ 2 }
 {
-    let mut bytes = [0u8; SPACE];
-    put_chambers(&mut bytes, 2, [1, 0, 1, 0], any_in(upper));
-    put_reserved(&mut bytes, j, 256);
-    report(out, name, &bytes, chamber_length_of(2))
-}
-
-// A step that asks for a unit of chamber 2.
-fn some_of_second(upper: u64) -> ChamberLimits {
-    ChamberLimits {
-        lower: 0,
-        upper,
-        least: [0, 1, 0, 0],
-        greatest: [u8::MAX; 4],
-    }
+    let mut sheet = chambered(2, [1, 0, 1, 0], any_of(upper));
+    sheet.put_reserved(j, 256);
+    report(rt, name, sheet.whole())
 }
 
 fn main(rt: HostRuntime) -> io::Result<()> {
-    let out = rt.stdout();
-    report_lengths(&out)?;
-    report_upper(&out, b"d = 64, upper all ones", 64, u64::MAX)?;
-    report_upper(&out, b"d = 63, unit 63 in upper", 63, 1 << 63)?;
-    report_chamber_lengths(&out)?;
+    report_lengths(&rt)?;
+    report_upper(&rt, "d = 64, upper all ones", 64, u64::MAX)?;
+    report_upper(&rt, "d = 63, unit 63 in upper", 63, 1 << 63)?;
+    report_chamber_lengths(&rt)?;
     report_chambers(
-        &out,
-        b"edition 2, chambers of 1, 0, 1 and 0 units, d = 2",
+        &rt,
+        "edition 2, chambers of 1, 0, 1 and 0 units, d = 2",
         2,
         [1, 0, 1, 0],
-        any_in(3),
+        any_of(3),
     )?;
     report_chambers(
-        &out,
-        b"edition 2, chambers of 1, 0, 1 and 0 units, d = 3",
+        &rt,
+        "edition 2, chambers of 1, 0, 1 and 0 units, d = 3",
         3,
         [1, 0, 1, 0],
-        any_in(3),
+        any_of(3),
     )?;
     report_chambers(
-        &out,
-        b"edition 2, chambers of 255, 2, 0 and 0 units, d = 1",
+        &rt,
+        "edition 2, chambers of 255, 2, 0 and 0 units, d = 1",
         1,
         [255, 2, 0, 0],
-        any_in(1),
+        any_of(1),
     )?;
-    report_reserved(&out, b"edition 2, bytes 26 to 27 of a step not zero", 1, 3)?;
+    report_reserved(&rt, "edition 2, bytes 26 to 27 of a step not zero", 1, 3)?;
     report_reserved(
-        &out,
-        b"edition 2, bytes 26 to 27 of a spare record not zero",
+        &rt,
+        "edition 2, bytes 26 to 27 of a spare record not zero",
         2,
         3,
     )?;
     report_reserved(
-        &out,
-        b"edition 2, bytes 26 to 27 of a step not zero, unit 2 in upper, d = 2",
+        &rt,
+        "edition 2, bytes 26 to 27 of a step not zero, unit 2 in upper, d = 2",
         1,
         7,
     )?;
     report_chambers(
-        &out,
-        b"edition 2, least number 1 in an empty chamber",
+        &rt,
+        "edition 2, least number 1 in an empty chamber",
         2,
         [1, 0, 1, 0],
         some_of_second(3),
     )?;
     report_chambers(
-        &out,
-        b"edition 2, least number 1 in a chamber of 1 unit",
+        &rt,
+        "edition 2, least number 1 in a chamber of 1 unit",
         2,
         [1, 1, 0, 0],
         some_of_second(3),

@@ -1,6 +1,7 @@
--- One chamber among others: what a plan of all does in it (`down`), and how a plan of it goes on to all (`up`), with the plans that are handed out in the others.
--- So what a chamber leaves of a bound is what the whole leaves of it. What a chamber has of the plan that is handed out for all is FindSupport's plan of it
--- (`support_cut`). At the end, chambers by their numbers.
+-- One chamber among others: what a plan of all does in it (`down`), and how a plan of it goes on to all (`up`), with
+-- the plans that are handed out in the others. So what a chamber leaves of a bound is what the whole leaves of it.
+-- What a chamber has of the plan that is handed out for all is FindSupport's plan of it (`support_cut`). At the end,
+-- chambers by their numbers.
 use mathlib.Core.Path.{◌≡◌, refl, sym, ap, ap₂, ◌∙◌, subst}
 use mathlib.Core.Logic.{⊎_elim}
 use mathlib.Core.Bool.{Bool}
@@ -54,7 +55,8 @@ module _ (start : ℕ) (ss : List ChamberLimits) where
   sum_part c [] m = absurd (Memᴰ.not-nil m)
   sum_part c (d ∷ cs) m = ⊎_elim (λ e. omega (arith, ap (λ x. total_of x start ss) e)) (λ n. omega (arith, sum_part c cs n)) (Memᴰ.cases_cons m)
 
-  -- a plan q of all chambers is feasible in one of them, and makes there at the most what the others leave of its switches
+  -- a plan q of all chambers is feasible in one of them, and makes there at the most what the others leave of its
+  -- switches
   abbrev Down : List Chamber → List ℕ → Chamber → Type 0
   Down cs q c = FeasiblePlan (parts_of c ss) (cut c.units q)
       × (total_in c.units start (cut c.units q) + sum_of cs start ss ≤ total_in (all cs) start q + total_of c start ss)

@@ -1,6 +1,6 @@
--- A bench whose chambers have all units below d, each in one of them, and steps that each have a feasible set (`Bench`): FindSupport on each chamber, put
--- together, is a feasible plan, its total is the sum over the chambers, and that is the fewest switches of any feasible plan (`bench_fewest`), whatever orders
--- break ties.
+-- A bench whose chambers have all units below d, each in one of them, and steps that each have a feasible set
+-- (`Bench`): FindSupport on each chamber, put together, is a feasible plan, its total is the sum over the chambers,
+-- and that is the fewest switches of any feasible plan (`bench_fewest`), whatever orders break ties.
 use mathlib.Core.Path.{◌≡◌, refl, sym, ap, subst, ◌∙◌}
 use mathlib.Core.Logic.{◌↔◌, ⊎_elim}
 use mathlib.Core.Bool.{Bool, true, and-eq-true_iff}

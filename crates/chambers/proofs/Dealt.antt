@@ -1,5 +1,5 @@
--- Chambers that are dealt out in order have no common unit (`dealt_apart`), and from their first unit on all units, as many as they have together
--- (`dealt_all`): from unit 0 on, all units below d (`dealt_whole`).
+-- Chambers that are dealt out in order have no common unit (`dealt_apart`), and from their first unit on all units, as
+-- many as they have together (`dealt_all`): from unit 0 on, all units below d (`dealt_whole`).
 use mathlib.Core.Path.{◌≡◌, sym, ap, ◌∙◌}
 use mathlib.Core.List.{List, [], ◌∷◌}
 use Prim.Native.Nat.{ℕ, ◌+◌, ◌-◌, ◌^◌, ◌≤◌}
@@ -15,7 +15,8 @@ use Rattle.chambers.proofs.Parts.{all, Apart}
 full_mono : (j k : ℕ) → j ≤ k → Subset (2 ^ j - 1) (2 ^ k - 1)
 full_mono j k h = subset_full k (2 ^ j - 1) (omega (arith, pow_mono h, pow_pos j))
 
--- the k units from `first` on, and the m units after them: they have none in common, and together they are the k + m units from `first` on
+-- the k units from `first` on, and the m units after them: they have none in common, and together they are the k + m
+-- units from `first` on
 module _ (first k m u : ℕ) where
   apart_from : bit (units_from first k) u + bit (units_from (first + k) m) u ≤ 1
   apart_from =

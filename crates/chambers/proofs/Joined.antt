@@ -1,6 +1,7 @@
--- The chart of a bench is that of each chamber, put together (`chart_joined`): a chamber's chart is drawn for the bound less the switches of the plans that are
--- handed out for the others, and shows the chamber's units alone. For a plan of all chambers within the bound leaves just so much to the chamber, and a plan of the
--- chamber within so much goes on to one of all (`down` and `up`).
+-- The chart of a bench is that of each chamber, put together (`chart_joined`): a chamber's chart is drawn for the
+-- bound less the switches of the plans that are handed out for the others, and shows the chamber's units alone. For a
+-- plan of all chambers within the bound leaves just so much to the chamber, and a plan of the chamber within so much
+-- goes on to one of all (`down` and `up`).
 use mathlib.Core.Path.{◌≡◌, refl, sym, ap, ◌∙◌}
 use mathlib.Core.Logic.{◌↔◌}
 use mathlib.Core.Bool.{Bool}

@@ -1,6 +1,7 @@
--- Lists of words joined, word by word. Joining is commutative and associative (`joined_comm`, `joined_past`), and lists without a unit are of no account
--- (`none_joined`). So a loop may join lists to an output in any order (`Joining`): what is there, with those still to come, is all of them joined.
--- A loop takes `joining_begun` once the output is cleared, `joining_on` in a turn, with `all_from` or `all_up_to` for the way that it goes, and
+-- Lists of words joined, word by word. Joining is commutative and associative (`joined_comm`, `joined_past`), and
+-- lists without a unit are of no account (`none_joined`). So a loop may join lists to an output in any order
+-- (`Joining`): what is there, with those still to come, is all of them joined. A loop takes `joining_begun` once the
+-- output is cleared, `joining_on` in a turn, with `all_from` or `all_up_to` for the way that it goes, and
 -- `joining_done` after the last turn.
 use mathlib.Core.Path.{◌≡◌, refl, sym, ap, ap₂, ◌∙◌, fun_ext}
 use mathlib.Core.List.{List, [], ◌∷◌, ◌++◌, map, map-id, Memᴰ}

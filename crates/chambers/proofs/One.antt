@@ -1,7 +1,8 @@
--- A bench with one chamber, and three empty ones, is the case of steps without chambers: the same sets are feasible (`one_fits`), and so the feasible plans, the fewest
--- switches, the chart and the sizes of the steps are the same (`one_plan_fits`, `one_fewest`, `one_chart`, `one_sizes_all`), and so is the plan that is handed out
--- (`one_plan`). What a step says of the empty chambers plays no part: it asks for none of their units, or no set would be feasible, and none is on, whatever the
--- greatest number.
+-- A bench with one chamber, and three empty ones, is the case of steps without chambers: the same sets are feasible
+-- (`one_fits`), and so the feasible plans, the fewest switches, the chart and the sizes of the steps are the same
+-- (`one_plan_fits`, `one_fewest`, `one_chart`, `one_sizes_all`), and so is the plan that is handed out (`one_plan`).
+-- What a step says of the empty chambers plays no part: it asks for none of their units, or no set would be feasible,
+-- and none is on, whatever the greatest number.
 use mathlib.Core.Path.{◌≡◌, refl, sym, ap, ap₂, ◌∙◌, subst}
 use mathlib.Core.Logic.{◌↔◌}
 use mathlib.Core.Bool.{Bool, true, false, cond}

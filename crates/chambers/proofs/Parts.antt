@@ -1,6 +1,6 @@
--- A set and a plan in parts. `all` has the units of some chambers; where no two have a unit in common (`Apart`), a set that fits in them is one that fits in the
--- first chamber (`first_fits`) and in the rest (`rest_fits`), and such sets together fit (`both_fit`). The switches of a plan are those of its parts
--- (`total_split`).
+-- A set and a plan in parts. `all` has the units of some chambers; where no two have a unit in common (`Apart`), a set
+-- that fits in them is one that fits in the first chamber (`first_fits`) and in the rest (`rest_fits`), and such sets
+-- together fit (`both_fit`). The switches of a plan are those of its parts (`total_split`).
 use mathlib.Core.Path.{◌≡◌, refl, sym, ap, ap₂, ◌∙◌, subst}
 use mathlib.Core.List.{List, [], ◌∷◌}
 use Prim.Native.Nat.{ℕ, ◌+◌, ◌≤◌, min, max}

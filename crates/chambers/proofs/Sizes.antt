@@ -1,6 +1,6 @@
 -- The test of a step gives the sizes of its feasible sets, and no other (`sizes_in_exact`), and passes exactly if
--- there is one (`some_fits_lem`), which comes to four simple tests (`four_tests_in`). A size of a set of all chambers is
--- the sum of the sizes of its parts; and of a sum that lies between the sums of the ends, each part has its share
+-- there is one (`some_fits_lem`), which comes to four simple tests (`four_tests_in`). A size of a set of all chambers
+-- is the sum of the sizes of its parts; and of a sum that lies between the sums of the ends, each part has its share
 -- between its own ends.
 use mathlib.Core.Path.{◌≡◌, refl, sym, ap, ap₂, ◌∙◌, subst}
 use mathlib.Core.Logic.{⊎_elim, ◌↔◌}
@@ -9,10 +9,10 @@ use mathlib.Core.List.Memᴰ
 use mathlib.Core.List.{List, [], ◌∷◌, Memᴰ}
 use Prim.Native.Nat.{ℕ, ◌+◌, ◌-◌, ◌≤◌, max}
 use native.Mathlib.Omega.{arith}
-use Rattle.units.specs.Limits.{HasSize, has_set, has_feasible}
+use Rattle.std.specs.Prelude.{Option, Some, None, is_some}
+use Rattle.units.specs.Limits.{between, HasSize, InOrder, has_feasible}
 use Rattle.units.specs.Sets.{union, intersection, Subset, is_subset, size}
 use Rattle.units.specs.declared.Sizes.{Sizes}
-use Rattle.units.specs.declared.Sizes.TheVariants.{Between, NoSet}
 use Rattle.units.proofs.Limits.{sizes_exact, sizes_ordered, some_feasible, four_tests}
 use Rattle.units.proofs.Sets.{bit_empty, bit_intersection, bit_union, size_empty, size_union, set_ext, subset_holds, subset_test}
 use Rattle.plans.specs.Switch.{Allows, sizes_of}
@@ -21,68 +21,45 @@ use Rattle.chambers.proofs.Parts.{all, Apart, FitsIn, same_counted, cut_counted,
 
 -- ---- sizes
 
--- the least is at the most the greatest
-abbrev InOrder : Sizes → Type 0
-InOrder (Between few many) = few ≤ many
-InOrder NoSet = Unit {0}
-
--- that is what the laws on the sizes of one chamber say
-in_order : (z : Sizes) → ((a b : ℕ) → z ≡ Between a b → a ≤ b) → InOrder z
-in_order (Between few many) h = h few many refl
-in_order NoSet h = tt
-
--- and what is said of the sizes of all
-ordered : (z : Sizes) → InOrder z → (a b : ℕ) → z ≡ Between a b → a ≤ b
-ordered (Between few many) h a b e = let l : few ≡ a = cc in let m : many ≡ b = cc in omega arith
-ordered NoSet h a b e = let never : ◌≡◌ {A = ℕ} 0 1 = cc in absurd (omega arith)
-
 -- sizes in order that are the same numbers are the same
-pub same_sizes : (z w : Sizes) → ((a b : ℕ) → z ≡ Between a b → a ≤ b) → ((a b : ℕ) → w ≡ Between a b → a ≤ b)
-    → ((k : ℕ) → HasSize z k ↔ HasSize w k) → z ≡ w
-same_sizes (Between a b) (Between c d) h k same =
-    let first = h a b refl in
-    let second = k c d refl in
-    let (p, q) = (same a).0 (omega arith, omega arith) in
-    let (r, s) = (same b).0 (omega arith, omega arith) in
-    let (t, u) = (same c).1 (omega arith, omega arith) in
-    let (v, w) = (same d).1 (omega arith, omega arith) in
-    ap₂ Between (omega arith) (omega arith)
-same_sizes (Between a b) NoSet h k same = absurd ((same a).0 (omega arith, omega (arith, h a b refl)))
-same_sizes NoSet (Between c d) h k same = absurd ((same c).1 (omega arith, omega (arith, k c d refl)))
-same_sizes NoSet NoSet h k same = refl
-
--- where there is one, there are two ends
-pub some_ends : (z : Sizes) → has_set z ≡ true → (a : ℕ) × ((b : ℕ) × (z ≡ Between a b))
-some_ends (Between few many) t = (few, (many, refl))
-some_ends NoSet t = absurd (false≢true t)
+pub same_sizes : (z w : Option Sizes) → InOrder z → InOrder w → ((k : ℕ) → HasSize z k ↔ HasSize w k) → z ≡ w
+same_sizes (Some z) (Some w) h k same =
+    let (p, q) = (same z.few).0 (omega arith, omega arith) in
+    let (r, s) = (same z.many).0 (omega arith, omega arith) in
+    let (t, u) = (same w.few).1 (omega arith, omega arith) in
+    let (v, x) = (same w.many).1 (omega arith, omega arith) in
+    ap₂ between (omega arith) (omega arith)
+same_sizes (Some z) None h k same = absurd ((same z.few).0 (omega arith, h))
+same_sizes None (Some w) h k same = absurd ((same w.few).1 (omega arith, k))
+same_sizes None None h k same = refl
 
 -- ---- two parts
 
 -- a size of each part makes one of both
-plus_has : (z w : Sizes) (j k : ℕ) → HasSize z j → HasSize w k → HasSize (plus z w) (j + k)
-plus_has (Between a b) (Between c d) j k (l, m) (p, q) = (omega arith, omega arith)
-plus_has (Between a b) NoSet j k h e = absurd e
-plus_has NoSet w j k h e = absurd h
+plus_has : (z w : Option Sizes) (j k : ℕ) → HasSize z j → HasSize w k → HasSize (plus z w) (j + k)
+plus_has (Some z) (Some w) j k (l, m) (p, q) = (omega arith, omega arith)
+plus_has (Some z) None j k h e = absurd e
+plus_has None w j k h e = absurd h
 
 -- and one of both is made of one of each
-has_plus : (z w : Sizes) → InOrder z → InOrder w → (k : ℕ) → HasSize (plus z w) k → (i : ℕ) × ((j : ℕ) × (HasSize z i × (HasSize w j × (i + j ≡ k))))
-has_plus (Between a b) (Between c d) h e k (l, m) =
-    let i = max a (k - d) in
+has_plus : (z w : Option Sizes) → InOrder z → InOrder w → (k : ℕ) → HasSize (plus z w) k → (i : ℕ) × ((j : ℕ) × (HasSize z i × (HasSize w j × (i + j ≡ k))))
+has_plus (Some z) (Some w) h e k (l, m) =
+    let i = max z.few (k - w.many) in
     (i, (k - i, ((omega arith, omega arith), ((omega arith, omega arith), omega arith))))
-has_plus (Between a b) NoSet h e k f = absurd f
-has_plus NoSet w h e k f = absurd f
+has_plus (Some z) None h e k f = absurd f
+has_plus None w h e k f = absurd f
 
 -- where each part has one, so have both
-plus_some : (z w : Sizes) → has_set z ≡ true → has_set w ≡ true → has_set (plus z w) ≡ true
-plus_some (Between a b) (Between c d) h k = refl
-plus_some (Between a b) NoSet h k = k
-plus_some NoSet w h k = h
+plus_some : (z w : Option Sizes) → is_some z ≡ true → is_some w ≡ true → is_some (plus z w) ≡ true
+plus_some (Some z) (Some w) h k = refl
+plus_some (Some z) None h k = k
+plus_some None w h k = h
 
 -- sums of sizes in order are in order
-plus_order : (z w : Sizes) → InOrder z → InOrder w → InOrder (plus z w)
-plus_order (Between a b) (Between c d) h k = omega arith
-plus_order (Between a b) NoSet h k = tt
-plus_order NoSet w h k = tt
+plus_order : (z w : Option Sizes) → InOrder z → InOrder w → InOrder (plus z w)
+plus_order (Some z) (Some w) h k = omega arith
+plus_order (Some z) None h k = tt
+plus_order None w h k = tt
 
 -- ---- some chambers
 
@@ -90,7 +67,7 @@ plus_order NoSet w h k = tt
 part_order : (c : Chamber) (s : ChamberLimits) → InOrder (sizes_of (part_of c s))
 part_order c s =
     let here = part_of c s in
-    in_order (sizes_of here) (sizes_ordered here.lower here.upper here.least here.greatest)
+    sizes_ordered here.lower here.upper here.least here.greatest
 
 parts_order : (cs : List Chamber) (s : ChamberLimits) → InOrder (part_sizes cs s)
 unfolding part_sizes
@@ -136,7 +113,7 @@ parts_exact (c ∷ cs) s a k =
     )
 
 -- there are some if there are some in each
-parts_some : (cs : List Chamber) (s : ChamberLimits) → ((c : Chamber) → Memᴰ c cs → has_set (sizes_of (part_of c s)) ≡ true) → has_set (part_sizes cs s) ≡ true
+parts_some : (cs : List Chamber) (s : ChamberLimits) → ((c : Chamber) → Memᴰ c cs → is_some (sizes_of (part_of c s)) ≡ true) → is_some (part_sizes cs s) ≡ true
 unfolding part_sizes
 parts_some [] s h = refl
 parts_some (c ∷ cs) s h = plus_some (sizes_of (part_of c s)) (part_sizes cs s) (h c (Memᴰ.head refl)) (parts_some cs s (λ d m. h d (Memᴰ.tail m)))
@@ -164,19 +141,19 @@ part_fits cs s x sub f =
     }
 
 module _ (cs : List Chamber) (s : ChamberLimits) where
-  -- What holds of the sums over the chambers, where the lower set is within the upper one, and of `NoSet`, where no set is feasible, holds of what the test
-  -- gives.
-  either_in : (P : Sizes → Type 0) → (Subset s.lower s.upper → P (part_sizes cs s)) → (((x : ℕ) → Fits cs s x → ⊥) → P NoSet) → P (sizes_in cs s)
+  -- What holds of the sums over the chambers, where the lower set is within the upper one, and of `None`, where no set
+  -- is feasible, holds of what the test gives.
+  either_in : (P : Option Sizes → Type 0) → (Subset s.lower s.upper → P (part_sizes cs s)) → (((x : ℕ) → Fits cs s x → ⊥) → P None) → P (sizes_in cs s)
   unfolding sizes_in
   either_in P some none = go (is_subset s.lower s.upper) refl
     where
-      go : (t : Bool) → is_subset s.lower s.upper ≡ t → P (cond t (part_sizes cs s) NoSet)
+      go : (t : Bool) → is_subset s.lower s.upper ≡ t → P (cond t (part_sizes cs s) None)
       go true e = some (subset_holds s.lower s.upper e)
       go false e = none (λ x f. false≢true (sym e ∙ subset_test s.lower s.upper (λ u. omega (arith, f.includes u, f.within u))))
 
   -- the least is at the most the greatest
-  pub sizes_in_ordered : (a b : ℕ) → sizes_in cs s ≡ Between a b → a ≤ b
-  sizes_in_ordered = ordered (sizes_in cs s) (either_in InOrder (λ sub. parts_order cs s) (λ none. tt))
+  pub sizes_in_ordered : InOrder (sizes_in cs s)
+  sizes_in_ordered = either_in InOrder (λ sub. parts_order cs s) (λ none. tt)
 
   -- a number is the size of some feasible set exactly if it is one of the sizes
   pub sizes_in_exact : Apart cs → Subset s.upper (all cs) → (k : ℕ) → ((x : ℕ) × (Fits cs s x × (size x ≡ k))) ↔ HasSize (sizes_in cs s) k
@@ -192,26 +169,30 @@ module _ (cs : List Chamber) (s : ChamberLimits) where
   pub some_fits_lem : Apart cs → some_fits cs s ≡ true ↔ ((x : ℕ) × Fits cs s x)
   unfolding some_fits
   some_fits_lem a =
-      either_in (λ z. has_set z ≡ true ↔ ((x : ℕ) × Fits cs s x))
+      either_in (λ z. is_some z ≡ true ↔ ((x : ℕ) × Fits cs s x))
       (λ sub. (
         λ t. let (x, f) = least (part_sizes cs s) (parts_order cs s) (parts_exact cs s a) t in (union x s.lower, part_fits cs s x sub f),
         λ (x, f). has_some (part_sizes cs s) _ ((parts_exact cs s a _).0 (intersection x (all cs), (fits_part cs s x f, refl))),
       ))
       (λ none. (λ t. absurd (false≢true t), λ (x, f). absurd (none x f)))
     where
-      has_some : (z : Sizes) (k : ℕ) → HasSize z k → has_set z ≡ true
-      has_some (Between few many) k h = refl
-      has_some NoSet k h = absurd h
+      has_some : (z : Option Sizes) (k : ℕ) → HasSize z k → is_some z ≡ true
+      has_some (Some w) k h = refl
+      has_some None k h = absurd h
 
       -- a set of the least size
-      least : (z : Sizes) → InOrder z → ((k : ℕ) → ((x : ℕ) × (FitsIn cs s x × (size x ≡ k))) ↔ HasSize z k) → has_set z ≡ true → (x : ℕ) × FitsIn cs s x
-      least (Between few many) o exact t = let (x, (f, is)) = (exact few).1 (omega arith, o) in (x, f)
-      least NoSet o exact t = absurd (false≢true t)
+      least : (z : Option Sizes) → InOrder z → ((k : ℕ) → ((x : ℕ) × (FitsIn cs s x × (size x ≡ k))) ↔ HasSize z k) → is_some z ≡ true → (x : ℕ) × FitsIn cs s x
+      least (Some z) o exact t = let (x, (f, is)) = (exact z.few).1 (omega arith, o) in (x, f)
+      least None o exact t = absurd (false≢true t)
 
   -- and then there are sizes
-  pub some_sizes_in : some_fits cs s ≡ true → (a : ℕ) × ((b : ℕ) × (sizes_in cs s ≡ Between a b))
+  pub some_sizes_in : some_fits cs s ≡ true → (z : Sizes) × (sizes_in cs s ≡ Some z)
   unfolding some_fits
-  some_sizes_in t = some_ends (sizes_in cs s) t
+  some_sizes_in t = the_value (sizes_in cs s) t
+    where
+      the_value : (z : Option Sizes) → is_some z ≡ true → (w : Sizes) × (z ≡ Some w)
+      the_value (Some w) t = (w, refl)
+      the_value None t = absurd (false≢true t)
 
   -- what a feasible set has in a chamber is feasible there
   pub part_allowed : (c : Chamber) → Memᴰ c cs → (x : ℕ) → Fits cs s x → Allows (part_of c s) (intersection x c.units)
@@ -238,13 +219,13 @@ module _ (cs : List Chamber) (s : ChamberLimits) where
     λ (x, f). ((λ u. omega (arith, f.includes u, f.within u)), λ c m. ((tests c).0 (intersection x c.units, part_allowed c m x f)).1),
     λ (sub, room).
         (some_fits_lem a).0
-        (ap (λ t. has_set (cond t (part_sizes cs s) NoSet)) (subset_test s.lower s.upper sub) ∙ parts_some cs s (λ c m. part c sub (room c m))),
+        (ap (λ t. is_some (cond t (part_sizes cs s) None)) (subset_test s.lower s.upper sub) ∙ parts_some cs s (λ c m. part c sub (room c m))),
   )
     where
       tests : (c : Chamber) → ((x : ℕ) × Allows (part_of c s) x) ↔ (Subset (part_of c s).lower (part_of c s).upper × HasRoom c s)
       tests c = four_tests (part_of c s).lower (part_of c s).upper (least_in c s) (greatest_in c s)
 
-      part : (c : Chamber) → Subset s.lower s.upper → HasRoom c s → has_set (sizes_of (part_of c s)) ≡ true
+      part : (c : Chamber) → Subset s.lower s.upper → HasRoom c s → is_some (sizes_of (part_of c s)) ≡ true
       part c sub room =
           (some_feasible (part_of c s).lower (part_of c s).upper (least_in c s) (greatest_in c s)).1
           ((tests c).1 ((λ u. omega (arith, sub u, bit_intersection s.lower c.units u, bit_intersection s.upper c.units u)), room))

@@ -1,6 +1,7 @@
--- FindSupport on each chamber, put together, is the best plan of all chambers, whatever orders break its ties: it is feasible (`support_fits`), its total is the
--- sum over the chambers (`support_sum`), and no feasible plan has a smaller one (`sum_least`). For the switches of a plan are those of its part in the first
--- chamber and of its part in the rest, each part is feasible there, and feasible parts put together are a feasible plan.
+-- FindSupport on each chamber, put together, is the best plan of all chambers, whatever orders break its ties: it is
+-- feasible (`support_fits`), its total is the sum over the chambers (`support_sum`), and no feasible plan has a
+-- smaller one (`sum_least`). For the switches of a plan are those of its part in the first chamber and of its part in
+-- the rest, each part is feasible there, and feasible parts put together are a feasible plan.
 use mathlib.Core.Path.{◌≡◌, refl, sym, ap, ap₂, ◌∙◌, subst}
 use mathlib.Core.Bool.{Bool}
 use mathlib.Core.List.{List, [], ◌∷◌, Memᴰ}

@@ -1,5 +1,6 @@
--- The words of a chamber's chart, by the number of switches to spare, are those that `tables` makes of the chamber's steps and of the plan that is handed out
--- for it (`on_words_lem`, `off_words_lem`). Steps are taken with the sizes of their feasible sets in the place of their two numbers (`sized`).
+-- The words of a chamber's chart, by the number of switches to spare, are those that `tables` makes of the chamber's
+-- steps and of the plan that is handed out for it (`on_words_lem`, `off_words_lem`). Steps are taken with the sizes of
+-- their feasible sets in the place of their two numbers (`sized`).
 use mathlib.Core.Path.{◌≡◌, sym, ap, ◌∙◌, subst}
 use mathlib.Core.Logic.{⊎_elim}
 use mathlib.Core.Bool.{true, false}

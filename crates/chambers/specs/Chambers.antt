@@ -1,14 +1,14 @@
--- A bench with chambers. Its units are dealt out to the chambers in order, and a step asks of each chamber for a number of its units. A reader should look at
--- `Fits`, which says what a feasible set of a step is, at `sizes_in`, the test of a step, and at `support_in`, the plan that is handed out. What is said of all plans
--- is said by the definitions of `plans` for steps of any kind (`fewest`, `can_be_on`, `can_be_off`), with the test `fits`.
-use Rattle.std.specs.Prelude.{ℕ, ◌+◌, ◌-◌, ◌^◌, ◌≤◌, Bool, true, cond, ◌&&◌, List, [], ◌∷◌, map, leb, length, get_or}
-use Rattle.units.specs.Limits.{has_set}
+-- A bench with chambers. Its units are dealt out to the chambers in order, and a step asks of each chamber for a
+-- number of its units. A reader should look at `Fits`, which says what a feasible set of a step is, at `sizes_in`, the
+-- test of a step, and at `support_in`, the plan that is handed out. What is said of all plans is said by the
+-- definitions of `plans` for steps of any kind (`fewest`, `can_be_on`, `can_be_off`), with the test `fits`.
+use Rattle.std.specs.Prelude.{ℕ, ◌+◌, ◌-◌, ◌^◌, ◌≤◌, Bool, true, cond, ◌&&◌, Option, Some, None, is_some, List, [], ◌∷◌, map, leb, length, get_or}
+use Rattle.units.specs.Limits.{between}
 use Rattle.units.specs.Sets.{intersection, difference, Subset, is_subset, size}
 use Rattle.units.specs.declared.Sizes.{Sizes}
-use Rattle.units.specs.declared.Sizes.TheVariants.{Between, NoSet}
 use Rattle.plans.specs.declared.Limits.{Limits}
 use Rattle.plans.specs.Plans.{joined_all}
-use Rattle.plans.specs.Rows.{limits}
+use Rattle.plans.specs.Steps.{limits}
 use Rattle.plans.specs.Support.{tie_order, find_support_by}
 use Rattle.plans.specs.Switch.{sizes_of}
 
@@ -47,7 +47,8 @@ sum (k ∷ ks) = k + sum ks
 
 -- ---- steps
 
--- what a step asks: the units that must be on, those that may be on, and the least and the greatest numbers on, chamber by chamber
+-- what a step asks: the units that must be on, those that may be on, and the least and the greatest numbers on,
+-- chamber by chamber
 pub record ChamberLimits : Type 0 where
   pub lower : ℕ
   pub upper : ℕ
@@ -70,7 +71,8 @@ abbrev pub Counted : List Chamber → ChamberLimits → ℕ → Type 0
 Counted [] s x = Unit {0}
 Counted (c ∷ cs) s x = (least_in c s ≤ size_in c x) × ((size_in c x ≤ greatest_in c s) × Counted cs s x)
 
--- x is a feasible set of the step (fit, in docs/FORMAT.md): it includes the lower set, lies within the upper set, and is so counted in each chamber
+-- x is a feasible set of the step (fit, in docs/FORMAT.md): it includes the lower set, lies within the upper set, and
+-- is so counted in each chamber
 pub record Fits (cs : List Chamber) (s : ChamberLimits) (x : ℕ) : Type 0 where
   pub includes : Subset s.lower x
   pub within : Subset x s.upper
@@ -98,24 +100,24 @@ parts_of c ss = map (part_of c) ss
 -- ---- the test of a step
 
 -- the sizes of two parts together: the sums of both, or none where a part has none
-abbrev pub plus : Sizes → Sizes → Sizes
-plus NoSet z = NoSet
-plus (Between few many) NoSet = NoSet
-plus (Between few many) (Between fewer more) = Between (few + fewer) (many + more)
+abbrev pub plus : Option Sizes → Option Sizes → Option Sizes
+plus None w = None
+plus (Some z) None = None
+plus (Some z) (Some w) = between (z.few + w.few) (z.many + w.many)
 
 -- sums over chambers
-unfoldable pub part_sizes : List Chamber → ChamberLimits → Sizes
-part_sizes [] s = Between 0 0
+unfoldable pub part_sizes : List Chamber → ChamberLimits → Option Sizes
+part_sizes [] s = between 0 0
 part_sizes (c ∷ cs) s = plus (sizes_of (part_of c s)) (part_sizes cs s)
 
--- the least and the greatest size of a feasible set of the step, which are the sums over its chambers, or that there is none: then the lower set is not within the
--- upper one, or some chamber has none
-unfoldable pub sizes_in : List Chamber → ChamberLimits → Sizes
-sizes_in cs s = cond (is_subset s.lower s.upper) (part_sizes cs s) NoSet
+-- the least and the greatest size of a feasible set of the step, which are the sums over its chambers, or that there
+-- is none: then the lower set is not within the upper one, or some chamber has none
+unfoldable pub sizes_in : List Chamber → ChamberLimits → Option Sizes
+sizes_in cs s = cond (is_subset s.lower s.upper) (part_sizes cs s) None
 
 -- the test that some set is feasible
 unfoldable pub some_fits : List Chamber → ChamberLimits → Bool
-some_fits cs s = has_set (sizes_in cs s)
+some_fits cs s = is_some (sizes_in cs s)
 
 -- what a chamber's numbers need for a feasible set: the least is at most the greatest, the lower set has at most the
 -- greatest number of the chamber's units, and the upper set at least the least

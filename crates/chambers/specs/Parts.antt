@@ -1,9 +1,10 @@
--- What a bench with chambers is in parts: a chamber's words of a list, its total, and its chart. And a bench with one chamber, with a step of it.
+-- What a bench with chambers is in parts: a chamber's words of a list, its total, and its chart. And a bench with one
+-- chamber, with a step of it.
 use Rattle.std.specs.Prelude.{ℕ, ◌+◌, Bool, List, [], ◌∷◌, map, get_or}
 use Rattle.units.specs.Sets.{intersection}
 use Rattle.plans.specs.declared.Limits.{Limits}
 use Rattle.plans.specs.Plans.{allows, can_be}
-use Rattle.plans.specs.Rows.{limits}
+use Rattle.plans.specs.Steps.{limits}
 use Rattle.plans.specs.Support.{tie_order}
 use Rattle.plans.specs.Switch.{total}
 use Rattle.chambers.specs.Chambers.{Chamber, ChamberLimits, chambers_of, parts_of, support_of}

@@ -1,5 +1,5 @@
--- Words joined to the places of an output, from the last place to the first: one place more, and a block of places more. For callers, `joined_words`: the
--- words and what the places held are then joined as lists.
+-- Words joined to the places of an output, from the last place to the first: one place more, and a block of places
+-- more. For callers, `joined_words`: the words and what the places held are then joined as lists.
 use mathlib.Core.Path.{◌≡◌, refl, sym, ap, ap₂, ◌∙◌}
 use mathlib.Core.List.{List, [], ◌∷◌, ◌++◌}
 use Prim.Native.Nat.{ℕ, zero, suc, ◌+◌, ◌-◌, ◌≤◌, ◌<◌}

@@ -1,22 +1,21 @@
--- The backward walk over the steps: tables that agree on the units held give the same words and the same tables before the step.
+-- The backward walk over the steps: tables that agree on the units held give the same words and the same tables before
+-- the step.
 use mathlib.Core.Path.{◌≡◌, ap, ap₂, ◌∙◌}
 use mathlib.Core.Logic.{◌⊎◌, inl, inr}
 use mathlib.Core.Bool.{Bool, cond, not, ◌&&◌, ◌||◌}
 use mathlib.Core.List.{List}
 use Prim.Native.Nat.{ℕ, suc, ◌≤◌, ◌<◌}
-use native.Mathlib.Nat.{zero-add}
 use native.Mathlib.Omega.{arith}
 use lib.ListN.{length, get_or, drop, drop_of_length-le}
 use lib.Seq.{drop-cons}
 use Rattle.units.specs.Sets.{bit, union, intersection, difference, meets, all, contains}
 use Rattle.units.proofs.Sets.{bit_cases, bit_difference, bit_le}
-use Rattle.plans.specs.Rows.{step_at}
+use Rattle.plans.specs.Steps.{step_at}
 use Rattle.plans.specs.declared.Limits.{Limits}
 use Rattle.plans.proofs.Laid.{steps_from_lem}
-use Rattle.tables.specs.Places.{later_in}
 use Rattle.tables.specs.Tables.{held, free, more, less, set_at, held_at, rows_at, Later, ended, saves_before, dispensable_before, even_row, gain_row, even_before, gain_before, stepped, later_from, in_place, on_word, off_word, later_at, on_at, off_at}
 use Rattle.tables.proofs.Words.{contains_in, contains_out, gathered_same, passing_same}
-use Rattle.chart.specs.Blocks.{SameOn}
+use Rattle.backward.specs.Backs.{SameOn}
 
 -- ---- tables that agree
 
@@ -121,16 +120,13 @@ module _ (start : ℕ) (ss : List Limits) (plan : List ℕ) (i : ℕ) (h : i < l
     off_here us = off_same s p t w v agrees tight f (rows_at start ss plan (suc i)) after us
 
   -- and what is still to come before the step
-  pub agrees_before : (saves dispensable : ℕ) (even gain : List ℕ) → saves ≡ saves_before s p t w → dispensable ≡ dispensable_before s p t w
-      → ((b : ℕ) → bit (held_at ss plan i) b ≡ 1 → get_or even b 0 ≡ even_before s p t w b)
-      → ((b : ℕ) → bit (held_at ss plan i) b ≡ 1 → get_or gain b 0 ≡ gain_before s p t w b)
-      → SameOn (held_at ss plan i) (later_in saves dispensable even gain) (later_at start ss plan i)
+  pub agrees_before : (x : Later) → SameOn (held_at ss plan i) x (stepped s p t w) → SameOn (held_at ss plan i) x (later_at start ss plan i)
   unfolding stepped
-  agrees_before saves dispensable even gain e f g j =
+  agrees_before x g =
       rw (later_on start ss plan i h k)
       (record {
-        saves = e ∙ saves_same s p t w v agrees;
-        dispensable = f ∙ dispensable_same s p t w v agrees;
-        even = λ u l m. ap (λ (n : ℕ). get_or even n 0) (zero-add u) ∙ g u m ∙ even_same s p t w v agrees u l;
-        gain = λ u l m. ap (λ (n : ℕ). get_or gain n 0) (zero-add u) ∙ j u m ∙ gain_same s p t w v agrees u l;
+        saves = g.saves ∙ saves_same s p t w v agrees;
+        dispensable = g.dispensable ∙ dispensable_same s p t w v agrees;
+        even = λ u l m. g.even u l m ∙ even_same s p t w v agrees u l;
+        gain = λ u l m. g.gain u l m ∙ gain_same s p t w v agrees u l;
       })

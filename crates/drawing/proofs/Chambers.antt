@@ -4,7 +4,7 @@ use mathlib.Core.Path.{◌≡◌, refl, sym, ap, ◌∙◌, subst}
 use mathlib.Core.Bool.{Bool, true, false}
 use mathlib.Core.List.Memᴰ
 use mathlib.Core.List.{List, [], ◌∷◌, map}
-use Prim.Native.Nat.{ℕ, suc, ◌+◌, ◌-◌, ◌*◌, ◌≤◌, ◌<◌}
+use Prim.Native.Nat.{ℕ, suc, ◌+◌, ◌-◌, ◌≤◌, ◌<◌}
 use native.Mathlib.Numerals.{add-one}
 use native.Mathlib.Omega.{arith}
 use lib.ListN.{length, length-map, get_or, replicate, take, drop, drop_of_length-le}
@@ -19,7 +19,6 @@ use Rattle.chambers.proofs.Joined.{chart_long, chart_joined}
 use Rattle.chambers.proofs.Joining.{Joining, joining_begun, joining_long, joining_on, joining_done, all_from}
 use Rattle.chambers.proofs.Words.{on_words_lem, off_words_lem}
 use Rattle.plans.specs.Plans.{allows, joined, joined_all, can_be}
-use Rattle.plans.specs.Rows.{rows_of}
 use Rattle.plans.specs.Switch.{total}
 use Rattle.plans.proofs.Cells.{Long}
 use Rattle.plans.proofs.Orders.{tie_ordered}
@@ -34,7 +33,7 @@ use Rattle.promises.specs.Common.{limits_on, sized_in}
 use Rattle.promises.specs.Plan.{support_on}
 use Rattle.promises.proofs.Charts.{words_of}
 use Rattle.promises.proofs.Read.{bench, few_units}
-use Rattle.campaign.specs.Benches.{units_on, chamber_on, DecodedIn}
+use Rattle.campaign.specs.Benches.{units_on, chamber_on}
 use Rattle.campaign.proofs.Decoded.{four_dealt, many_limits, chamber_in, part_taken}
 use Rattle.campaign.proofs.Planned.{none_added}
 
@@ -77,18 +76,11 @@ module _ (s : List ℕ) {x : Summary} (e : summary_read s ≡ Given x) (c : ℕ)
       ap (cut (chamber_on s c).units) is
       ∙ support_cut (λ i. tie_ordered) (start_of s) (limits_on s) (chamber_on s c) (chambers_in s) (chamber_in s e c few) b.apart (chambers_satisfied b)
 
-  -- what is lent of it, and of the chamber's words
+  -- what the first places hold of it
   pub lent_part : (units : ℕ) → units ≡ (chamber_on s c).units → (plan before made : List ℕ) → take x.steps plan ≡ support_on s
-      → made ≡ sets before 0 (cut units (take x.steps plan)) → x.steps ≤ length before → take (x.steps - 0) made ≡ plan_of (chamber_on s c) (start_of s) (limits_on s)
+      → made ≡ sets before 0 (cut units (take x.steps plan)) → x.steps ≤ length before → take x.steps made ≡ plan_of (chamber_on s c) (start_of s) (limits_on s)
   lent_part units own plan before made whole is room =
-      let all : x.steps - 0 ≡ x.steps = omega arith in
-      ap (λ (k : ℕ). take k made) all
-      ∙ part_taken s e c few before (is ∙ ap (sets before 0) (ap (λ (u : ℕ). cut u (take x.steps plan)) own ∙ cut_plan plan whole)) room
-
-  pub lent_words : (rows : List ℕ) → DecodedIn s x.steps (chamber_on s c) rows → ((chamber_on s c).units ≡ 0 → ⊥) → take (4 * x.steps - 0) rows ≡ rows_of (sized_in s (chamber_on s c))
-  lent_words rows decoded some =
-      let all : 4 * x.steps - 0 ≡ 4 * x.steps = omega arith in
-      ap (λ (k : ℕ). take k rows) all ∙ decoded some
+      part_taken s e c few before (is ∙ ap (sets before 0) (ap (λ (u : ℕ). cut u (take x.steps plan)) own ∙ cut_plan plan whole)) room
 
   module _ (slack : ℕ) where
     -- the words that are read from the tables: the units that can be on, or those of the chamber that can be off

@@ -1,2 +1,3 @@
--- `Remaking` has the laws on the records of a sheet that are put into an output in the other edition, one after the other.
+-- `Remaking` has the laws on the records of a sheet that are put into an output in the other edition, one after the
+-- other.
 mod Remaking

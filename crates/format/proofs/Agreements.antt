@@ -1,6 +1,8 @@
--- Sheets that agree are read the same but for tags (`same_read`). The walk visits the same records of both, one after the other (`same_links`): where the last
--- link leads out of the sheet or back, both get the same refusal, and else their steps differ in tags alone. The start set plays a part in one cause only: where
--- that cause holds of both sheets or of neither, sheets that agree up to the start set are read the same but for tags and the start set (`same_but_start`).
+-- Sheets that agree are read the same but for tags (`same_read`). The walk visits the same records of both, one after
+-- the other (`same_links`): where the last link leads out of the sheet or back, both get the same refusal, and else
+-- their steps differ in tags alone. The start set plays a part in one cause only: where that cause holds of both
+-- sheets or of neither, sheets that agree up to the start set are read the same but for tags and the start set
+-- (`same_but_start`).
 use mathlib.Core.Path.{◌≡◌, refl, sym, ap, ap₂, ◌∙◌}
 use mathlib.Core.Bool.{Bool, cond}
 use mathlib.Core.List.{List, [], ◌∷◌, ◌++◌, map}
@@ -115,8 +117,8 @@ module _ {k : ℕ} (enough : start_at ≤ k) (s t : List ℕ) (g : AgreeTo k s t
   no_links : {A : Type 0} {ofS ofT : List ℕ → Answer A} → ((js : List ℕ) → SameSteps js → ofS js ≡ ofT js) → unless [] (ofS []) ≡ unless [] (ofT [])
   no_links h = ap (unless []) (h [] refl)
 
-  -- The links from a visited record on are judged the same, and so is what is made of the records on the chain, `ofS` and `ofT`, if it is the same for
-  -- the same steps.
+  -- The links from a visited record on are judged the same, and so is what is made of the records on the chain, `ofS`
+  -- and `ofT`, if it is the same for the same steps.
   same_links : {A : Type 0} (r k : ℕ) (met : List ℕ) (holder : ℕ) (ofS ofT : List ℕ → Answer A) → r ≡ records_of s → Visited s holder
       → ((js : List ℕ) → SameSteps js → ofS js ≡ ofT js)
       → unless (link_causes r met holder (following k s holder)) (ofS (following k s holder)) ≡ unless (link_causes r met holder (following k t holder)) (ofT (following k t holder))

@@ -1,4 +1,5 @@
--- Laws on answers: the first cause that holds is the refusal (`refused_exactly`), and a list of causes is decided part by part (`unless_append`).
+-- Laws on answers: the first cause that holds is the refusal (`refused_exactly`), and a list of causes is decided part
+-- by part (`unless_append`).
 use mathlib.Core.Path.{◌≡◌, refl, sym, ap, ◌∙◌, subst}
 use mathlib.Core.Logic.{◌↔◌, ◌⊎◌, inl, inr}
 use mathlib.Core.Bool.{Bool, true, false, cond}
@@ -90,8 +91,8 @@ unless_given cs a e = sym (all_passed cs a e a) ∙ e
 pub given_passes : {A : Type 0} (cs : List Cause) (a : Answer A) {w : A} → unless cs a ≡ Given w → (n p : ℕ) → First cs n p → ⊥
 given_passes cs a {w} e n p f = let refused : Refused n p ≡ Given w = first_refuses f a ∙ e in let z : ◌≡◌ {A = ℕ} 0 1 = cc in omega arith
 
--- What is made of two answers behind causes, by f and by g, is the same, if it is of each refusal, and of the answers themselves where the causes let the
--- same value pass.
+-- What is made of two answers behind causes, by f and by g, is the same, if it is of each refusal, and of the answers
+-- themselves where the causes let the same value pass.
 pub unless_same : {A B R : Type 0} (f g : Answer A → R) (cs ds : List Cause) (a b : Answer A) (v w : B) → unless cs (Given v) ≡ unless ds (Given w)
     → ((n p : ℕ) → f (Refused n p) ≡ g (Refused n p)) → (v ≡ w → f a ≡ g b) → f (unless cs a) ≡ g (unless ds b)
 unless_same {A} {B} f g cs ds a b v w e refusals values = go (unless cs (Given v)) refl

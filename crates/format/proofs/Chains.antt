@@ -1,7 +1,8 @@
 -- Laws on the chain.
 --
--- `Met r on`: the records `on` the chain are distinct and between 1 and r, so that they are r at the most (`met_room`). They are told apart by
--- a set that has each of them as a unit: its size is their number, and it has no unit but 1 to r.
+-- `Met r on`: the records `on` the chain are distinct and between 1 and r, so that they are r at the most
+-- (`met_room`). They are told apart by a set that has each of them as a unit: its size is their number, and it has no
+-- unit but 1 to r.
 use mathlib.Core.Path.{◌≡◌, refl, sym, ap, ◌∙◌, subst}
 use mathlib.Core.Bool.{true, false, ◌||◌, or_assoc, or-false, or-true}
 use mathlib.Core.List.{List, [], ◌∷◌, ◌++◌}
@@ -90,7 +91,8 @@ follow_on k s holder n = simp (ne_eqb (next_of s holder) 0 n)
 
 -- ---- the chain is long enough
 
--- Once as many records may follow as there are places for distinct ones, more change nothing: `answer` is whatever is made of the chain.
+-- Once as many records may follow as there are places for distinct ones, more change nothing: `answer` is whatever is
+-- made of the chain.
 long_enough : {A : Type 0} (answer : List ℕ → Answer A) (s : List ℕ) (r k more : ℕ) (met : List ℕ) (holder : ℕ) → Met r met → r < length met + k
     → unless (link_causes r met holder (following (k + more) s holder)) (answer (following (k + more) s holder))
     ≡ unless (link_causes r met holder (following k s holder)) (answer (following k s holder))

@@ -1,6 +1,7 @@
--- What a sheet says that is made over to the other edition, of one that passes the reader and has all of its units in the first chamber: each record names the same
--- next one and holds the same step, but for what it says of the empty chambers (`remade_next`, `remade_step`). So the chain is the same (`remade_chain`), and the sheet
--- passes the reader too (`remade_passes`).
+-- What a sheet says that is made over to the other edition, of one that passes the reader and has all of its units in
+-- the first chamber: each record names the same next one and holds the same step, but for what it says of the empty
+-- chambers (`remade_next`, `remade_step`). So the chain is the same (`remade_chain`), and the sheet passes the reader
+-- too (`remade_passes`).
 use mathlib.Core.Path.{◌≡◌, refl, sym, ap, ap₂, ◌∙◌, subst}
 use mathlib.Core.Bool.{Bool, true, false, cond, not, ◌&&◌}
 use mathlib.Core.List.{List, [], ◌∷◌, ◌++◌, map}

@@ -1,4 +1,5 @@
--- The worked examples of the reader and of sheets in the other edition hold: each row is computed from the definitions.
+-- The worked examples of the reader and of sheets in the other edition hold: each row is computed from the
+-- definitions.
 use mathlib.Core.Path.{refl}
 use lib.Count.{ones, ones_in}
 use Rattle.chambers.specs.Chambers.{dealt, numbered, sum, part_sizes, sizes_in, some_fits}

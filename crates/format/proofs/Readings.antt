@@ -1,5 +1,5 @@
--- Laws on what the reader reads: a header that was given is sound, the records of a chain without a fault lie within the sheet, and the reader's
--- stages decide one after the other.
+-- Laws on what the reader reads: a header that was given is sound, the records of a chain without a fault lie within
+-- the sheet, and the reader's stages decide one after the other.
 use mathlib.Core.Path.{◌≡◌, refl, sym, ap, ap₂, ◌∙◌, subst}
 use mathlib.Core.Logic.{inl, inr}
 use mathlib.Core.Bool.{Bool, true, false, cond, not, ◌&&◌}
@@ -14,7 +14,7 @@ use Rattle.chambers.specs.Chambers.{Chamber, sum, chambers_of, some_fits}
 use Rattle.format.specs.declared.Header.{Header}
 use Rattle.format.specs.declared.ChamberStep.{ChamberStep}
 use Rattle.format.specs.declared.Summary.{Summary}
-use Rattle.format.specs.Answer.{Answer, Refused, Given, unless}
+use Rattle.format.specs.Answer.{Answer, Refused, Given, Cause, unless}
 use Rattle.format.specs.Chain.{following, chain_of, link_causes, Within, Inside, steps_from}
 use Rattle.format.specs.Format.{letters, unit_limit, record_limit, sheet_length, letters_of, is_first, units_of, records_of, reserved_of, sizes, sizes_list, chambers_in, header, next_of, step_of, limits_of}
 use Rattle.format.specs.Reading.{same, form_causes, header_causes, steps_causes, records_on, steps_of, open_causes, read_causes, ReaderNumber}
@@ -195,13 +195,22 @@ pub open_refuses : (s : List ℕ) {n p : ℕ} → open_read s ≡ Refused n p �
 open_refuses s e = refused_whatever (open_causes s) (summary_of s) (sym e) _ ∙ sym (read_staged s (Given (summary_of s)))
 
 -- past the chain, the steps decide
-pub steps_decide : (s : List ℕ) {x : Summary} → open_read s ≡ Given x
-    → unless (steps_causes (chambers_of (sizes_list x.header.sizes)) x.header.units 1 (steps_from s 0 x.steps)) (Given x) ≡ summary_read s
-steps_decide s {x} e =
-    let o = opened s e in
-    ap₂ (λ (y : Summary) xs. unless (steps_causes (chambers_of (sizes_list y.header.sizes)) y.header.units 1 xs) (Given y)) (sym o.summary) o.steps
-    ∙ sym (all_passed (open_causes s) _ e _)
-    ∙ sym (read_staged s (Given (summary_of s)))
+module _ (s : List ℕ) {x : Summary} (e : open_read s ≡ Given x) where
+  abbrev causes : List Cause
+  causes = steps_causes (chambers_of (sizes_list x.header.sizes)) x.header.units 1 (steps_from s 0 x.steps)
+
+  decide : unless causes (Given x) ≡ summary_read s
+  decide =
+      let o = opened s e in
+      ap₂ (λ (y : Summary) xs. unless (steps_causes (chambers_of (sizes_list y.header.sizes)) y.header.units 1 xs) (Given y)) (sym o.summary) o.steps
+      ∙ sym (all_passed (open_causes s) _ e _)
+      ∙ sym (read_staged s (Given (summary_of s)))
+
+  pub steps_refuse : {n p : ℕ} → Refused n p ≡ unless {A = Unit {0}} causes (Given tt) → Refused n p ≡ summary_read s
+  steps_refuse h = refused_whatever causes tt h (Given x) ∙ decide
+
+  pub steps_pass : Given tt ≡ unless {A = Unit {0}} causes (Given tt) → Given x ≡ summary_read s
+  steps_pass h = sym (all_passed causes (Given tt) (sym h) (Given x)) ∙ decide
 
 -- a sheet that was read was opened
 pub read_opens : (s : List ℕ) {x : Summary} → summary_read s ≡ Given x → open_read s ≡ Given x

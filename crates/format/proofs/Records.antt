@@ -1,13 +1,12 @@
--- Laws on the records of a sheet of either edition: where they lie, what the number of the next one is, and that records with the same bytes hold the same step.
+-- Laws on the records of a sheet of either edition: where they lie, what the number of the next one is, and that
+-- records with the same bytes hold the same step.
 use mathlib.Core.Path.{◌≡◌, refl, sym, ap, ◌∙◌}
 use mathlib.Core.Bool.{Bool, true, false, cond}
 use mathlib.Core.List.{List, [], ◌∷◌}
 use Prim.Native.Nat.{ℕ, zero, suc, ◌+◌, ◌≤◌, ◌<◌}
 use native.Mathlib.Nat.{add_assoc, add-zero}
 use native.Mathlib.Omega.{arith}
-use lib.ListN.{length}
 use Rattle.format.specs.Agreement.{untagged}
-use Rattle.format.specs.Chain.{Within}
 use Rattle.format.specs.Numbers.{byte_at, u16_at, u64_at}
 use Rattle.format.specs.Format.{header_size, record_size, record_limit, upper_at, least_at, greatest_at, next_at, reserved_at, tag_at, sheet_length, record_offset, longest, is_first, first_of, numbers_at, step_in, next_of}
 use Rattle.format.proofs.Numbers.{same_u16, same_u32, same_u64}
@@ -16,10 +15,6 @@ use Rattle.format.proofs.Numbers.{same_u16, same_u32, same_u64}
 pub record_ends : (first : Bool) (j : ℕ) → 0 < j → record_offset first j + record_size first ≡ sheet_length first j
 record_ends true j h = omega arith
 record_ends false j h = omega arith
-
--- record j, which lies whole within a sheet, does so from where it begins
-pub record_within : (s : List ℕ) (first : Bool) (j : ℕ) → first ≡ is_first s → 0 < j → Within s j → record_offset first j + record_size first ≤ length s
-record_within s first j e some h = omega (arith, record_ends first j some, ap (λ (b : Bool). sheet_length b j) e, h)
 
 -- the fields of a record lie within it, and where the numbers of the chambers begin four bytes are left
 pub fields_within : (first : Bool) → (24 ≤ record_size first) × ((greatest_at first + 4 ≤ record_size first) × ((next_at first + 2 ≤ record_size first) × (tag_at first + 4 ≤ record_size first)))

@@ -1,7 +1,8 @@
--- The bytes of a sheet that is made over to the other edition: its length (`remade_long`), and that record j of it is record j of the sheet, made over
--- (`remade_part`). And up and down again gives the same bytes (`up_and_down`).
+-- The bytes of a sheet that is made over to the other edition: its length (`remade_long`), and that record j of it is
+-- record j of the sheet, made over (`remade_part`). And up and down again gives the same bytes (`up_and_down`).
 --
--- What a header or one record says is computed: a list of so many bytes is written out byte by byte (`written_out`), and both sides are then the same.
+-- What a header or one record says is computed: a list of so many bytes is written out byte by byte (`written_out`),
+-- and both sides are then the same.
 use mathlib.Core.Path.{◌≡◌, refl, sym, ap, ap₂, ◌∙◌, subst}
 use mathlib.Core.Bool.{Bool, true, false, cond, not}
 use mathlib.Core.List.{List, [], ◌∷◌, ◌++◌}

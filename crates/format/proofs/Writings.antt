@@ -1,8 +1,9 @@
 -- A sheet that is written reads as what it was written from (`written_reads`).
 --
--- The bytes of a number give it back, wherever they lie. The records are followed one by one (`Followed`): record j + 1 lies after the header and j
--- records, so it holds its step, and its link is the one that was written, to the record after it. So the chain is 1 to n without a fault, and its
--- steps are those that were written. The faults of the steps themselves are left to the reader.
+-- The bytes of a number give it back, wherever they lie. The records are followed one by one (`Followed`): record j +
+-- 1 lies after the header and j records, so it holds its step, and its link is the one that was written, to the record
+-- after it. So the chain is 1 to n without a fault, and its steps are those that were written. The faults of the steps
+-- themselves are left to the reader.
 use mathlib.Core.Path.{◌≡◌, refl, sym, ap, ap₂, ◌∙◌}
 use mathlib.Core.Bool.{Bool, true, false, cond, not}
 use mathlib.Core.List.{List, [], ◌∷◌, ◌++◌, map, append_assoc}
@@ -79,7 +80,8 @@ link_small j n h = go (ltb j n) refl
     go true e = omega (arith, ltb-true j n e)
     go false e = omega arith
 
--- In the sheet s of edition 1 with n records, record j (the header, where j is 0) is followed by the records of the last steps, and its link leads there.
+-- In the sheet s of edition 1 with n records, record j (the header, where j is 0) is followed by the records of the
+-- last steps, and its link leads there.
 record Followed (s : List ℕ) (j n : ℕ) (xs : List Step) : Type 0 where
   first : is_first s ≡ true
   left : j + length xs ≡ n

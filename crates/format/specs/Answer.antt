@@ -1,4 +1,5 @@
--- Answers: a value, or one refusal with its number and place. Checks run in the order of a list of causes, and the first that holds is the refusal.
+-- Answers: a value, or one refusal with its number and place. Checks run in the order of a list of causes, and the
+-- first that holds is the refusal.
 use Rattle.std.specs.Prelude.{ℕ, ◌≡◌, Bool, true, false, cond, List, [], ◌∷◌}
 
 pub data Answer (A : Type 0) : Type 0 where

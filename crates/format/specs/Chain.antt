@@ -23,8 +23,8 @@ unfoldable pub is_in : ℕ → List ℕ → Bool
 is_in j [] = false
 is_in j (k ∷ ks) = eqb j k || is_in j ks
 
--- refusals 4 and 5 of each link to a record of the list: it leads out of the r records, or to one of those already met. The first link is held
--- by `holder`, and each other by the record before it.
+-- refusals 4 and 5 of each link to a record of the list: it leads out of the r records, or to one of those already
+-- met. The first link is held by `holder`, and each other by the record before it.
 unfoldable pub link_causes : ℕ → List ℕ → ℕ → List ℕ → List Cause
 link_causes r met holder [] = []
 link_causes r met holder (j ∷ js) =

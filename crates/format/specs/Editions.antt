@@ -1,5 +1,6 @@
--- A sheet in an edition: the bytes that a sheet is converted to. `first` says which edition is wanted, the first or the second, and what is converted is of the other
--- one. Look at `record_in` beside the table of a record in docs/FORMAT.md. Every record of the sheet is converted, those off the chain too (spare records, there).
+-- A sheet in an edition: the bytes that a sheet is converted to. `first` says which edition is wanted, the first or
+-- the second, and what is converted is of the other one. Look at `record_in` beside the table of a record in
+-- docs/FORMAT.md. Every record of the sheet is converted, those off the chain too (spare records, there).
 use Rattle.std.specs.Prelude.{ℕ, zero, suc, ◌+◌, ◌-◌, Bool, true, false, cond, not, List, [], ◌∷◌, ◌++◌, get_or, take, drop, replicate}
 use Rattle.format.specs.declared.ChamberStep.{ChamberStep}
 use Rattle.format.specs.declared.Step.{Step}
@@ -13,8 +14,8 @@ part at k s = take k (drop at s)
 abbrev pub zeros : ℕ → List ℕ
 zeros k = replicate {A = ℕ} k 0
 
--- The header: as it was, but for the edition and the numbers of units of the chambers. In the first edition these bytes are zero, and in the second all units are in
--- the first chamber.
+-- The header: as it was, but for the edition and the numbers of units of the chambers. In the first edition these
+-- bytes are zero, and in the second all units are in the first chamber.
 unfoldable pub header_in : Bool → List ℕ → List ℕ
 header_in first s =
     part 0 edition_at s
@@ -23,8 +24,9 @@ header_in first s =
     ++ (cond first 0 (units_of s) ∷ zeros 3)
     ++ part start_at (header_size - start_at) s
 
--- A record: the sets, the least number and the greatest number of the first chamber, each with zeros for the other chambers in the second edition, the number of the
--- next record, two bytes that are zero in the second edition, and the tag.
+-- A record: the sets, the least number and the greatest number of the first chamber, each with zeros for the other
+-- chambers in the second edition, the number of the next record, two bytes that are zero in the second edition, and
+-- the tag.
 unfoldable pub record_in : Bool → List ℕ → List ℕ
 record_in first b =
     part 0 least_at b

@@ -1,6 +1,7 @@
--- Worked examples of the reader: sheets written out, and what the reader says of each, either one refusal with its place or the campaign; and sheets in the other
--- edition. One statement, `All` of the tables, is proved in proofs/Examples.antt from the definitions alone. The theorems do not say which byte a tag begins at or which place a refusal
--- has; these rows do.
+-- Worked examples of the reader: sheets written out, and what the reader says of each, either one refusal with its
+-- place or the campaign; and sheets in the other edition. One statement, `All` of the tables, is proved in
+-- proofs/Examples.antt from the definitions alone. The theorems do not say which byte a tag begins at or which place a
+-- refusal has; these rows do.
 use Rattle.std.specs.Prelude.{ℕ, ◌≡◌, Bool, true, false, List, [], ◌∷◌, ◌++◌, replicate, set, take}
 use Rattle.format.specs.declared.ChamberStep.{ChamberStep}
 use Rattle.format.specs.declared.Step.{Step}
@@ -20,7 +21,8 @@ tagged l u m g t = record { lower = l; upper = u; least = m; greatest = g; tag =
 abbrev pub step : ℕ → ℕ → ℕ → ℕ → Step
 step l u m g = tagged l u m g 0
 
--- a step of edition 2: its lower and upper set, the four least and the four greatest numbers, the bytes that are zero, and its tag
+-- a step of edition 2: its lower and upper set, the four least and the four greatest numbers, the bytes that are zero,
+-- and its tag
 abbrev pub chambered : ℕ → ℕ → List ℕ → List ℕ → ℕ → ℕ → ChamberStep
 chambered l u ms gs z t = record { lower = l; upper = u; least = ms; greatest = gs; tag = t; reserved = z }
 
@@ -30,8 +32,8 @@ chambered l u ms gs z t = record { lower = l; upper = u; least = ms; greatest = 
 abbrev pub no_step : List ℕ
 no_step = sheet_of 1 0 0 []
 
--- one unit and one record, with these numbers of the first record, in the header, and of the next, in the record: with 1 and 1 the record names itself
--- (B8), and with 2 and 0 the first record is not there (B9)
+-- one unit and one record, with these numbers of the first record, in the header, and of the next, in the record: with
+-- 1 and 1 the record names itself (B8), and with 2 and 0 the first record is not there (B9)
 abbrev pub one_record : ℕ → ℕ → List ℕ
 one_record first next = header_bytes 1 1 first 0 0 ++ record_bytes (step 0 1 0 1) next
 
@@ -47,7 +49,8 @@ back_again = header_bytes 1 3 2 0 0 ++ record_bytes (step 0 1 0 1) 3 ++ record_b
 abbrev pub tags_and_unused : List ℕ
 tags_and_unused = header_bytes 3 3 2 515 5 ++ record_bytes (tagged 1 7 0 2 67305985) 0 ++ record_bytes (tagged 2 3 1 2 4294967295) 1 ++ replicate 24 255
 
--- two units, and two steps that allow at most one of them to be on, but for a fault that a step may have: a unit that is not there, or no feasible set
+-- two units, and two steps that allow at most one of them to be on, but for a fault that a step may have: a unit that
+-- is not there, or no feasible set
 abbrev sound : Step
 sound = step 0 3 0 1
 
@@ -65,7 +68,8 @@ pair x y = sheet_of 2 1 0 (x ∷ y ∷ [])
 
 -- ---- sheets of edition 2
 
--- a header of d units and r records, with the number of the first record, the bound, the four numbers of units and the start set
+-- a header of d units and r records, with the number of the first record, the bound, the four numbers of units and the
+-- start set
 unfoldable pub chamber_header : ℕ → ℕ → ℕ → ℕ → List ℕ → ℕ → List ℕ
 chamber_header d r first bound sizes start =
     letters ++ (2 ∷ d ∷ []) ++ bytes_of 2 r ++ bytes_of 2 first ++ bytes_of 2 bound ++ sizes ++ bytes_of 8 start
@@ -83,12 +87,14 @@ four a b c d = a ∷ b ∷ c ∷ d ∷ []
 abbrev pub no_chamber_step : ℕ → List ℕ → List ℕ
 no_chamber_step d sizes = chamber_header d 0 0 0 sizes 0
 
--- three units, the first of them in chamber 1 and the others in chamber 3, and two steps, of which the second lies in record 1
+-- three units, the first of them in chamber 1 and the others in chamber 3, and two steps, of which the second lies in
+-- record 1
 abbrev pub two_chambers : ChamberStep → ChamberStep → List ℕ
 two_chambers x y = chamber_header 3 3 2 515 (four 1 0 2 0) 5 ++ chamber_record y 0 ++ chamber_record x 1 ++ replicate 32 255
 
--- A step that asks for one unit of chamber 3, with a byte of its own in each place of its numbers that plays no part. The faults that such a step may have: bytes that are not
--- zero, a unit that is not there, a unit asked for in a chamber that has none, and two units in a chamber of one.
+-- A step that asks for one unit of chamber 3, with a byte of its own in each place of its numbers that plays no part.
+-- The faults that such a step may have: bytes that are not zero, a unit that is not there, a unit asked for in a
+-- chamber that has none, and two units in a chamber of one.
 abbrev pub one_of_third : ChamberStep
 one_of_third = chambered 1 7 (four 0 0 1 0) (four 9 17 1 34) 0 67305985
 
@@ -175,8 +181,9 @@ pairs_of_faults =
     ∷ row (two_chambers (beyond 0) not_zero) (Refused 6 1)
     ∷ []
 
--- Sheets without a fault. Of edition 1 they are read as having one chamber; two have the most units, and the most records, and with a byte more the length is wrong. Of edition 2:
--- steps with four numbers each, an unused record whose bytes are not zero, and the most records.
+-- Sheets without a fault. Of edition 1 they are read as having one chamber; two have the most units, and the most
+-- records, and with a byte more the length is wrong. Of edition 2: steps with four numbers each, an unused record
+-- whose bytes are not zero, and the most records.
 unfoldable pub campaigns : List Example
 campaigns =
     row no_step (Given (record { units = 1; bound = 0; start = 0; chambers = four 1 0 0 0; steps = [] }))
@@ -192,8 +199,9 @@ campaigns =
 
 -- ---- sheets in the other edition
 
--- Three units in one chamber, and three records, of which the second is the first step, the first is the second and last, and the third, with a byte of its own in each place, is
--- unused: in edition 1, and in edition 2, where the steps also have greatest numbers for chambers that have no unit.
+-- Three units in one chamber, and three records, of which the second is the first step, the first is the second and
+-- last, and the third, with a byte of its own in each place, is unused: in edition 1, and in edition 2, where the
+-- steps also have greatest numbers for chambers that have no unit.
 abbrev pub spare_in_first : List ℕ
 spare_in_first = header_bytes 3 3 2 515 5 ++ record_bytes (tagged 1 7 0 2 67305985) 0 ++ record_bytes (tagged 2 3 1 2 4294967295) 1 ++ numbers_from 101 24
 

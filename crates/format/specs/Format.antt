@@ -1,5 +1,5 @@
--- The layout of a sheet, as docs/FORMAT.md describes it: sizes and limits, the fields of the header and of a record. There are two editions, and what differs between
--- them is said by whether it is the first.
+-- The layout of a sheet, as docs/FORMAT.md describes it: sizes and limits, the fields of the header and of a record.
+-- There are two editions, and what differs between them is said by whether it is the first.
 use Rattle.std.specs.Prelude.{ℕ, zero, suc, ◌+◌, ◌-◌, ◌*◌, Bool, true, false, cond, List, [], ◌∷◌, eqb, take}
 use Rattle.chambers.specs.Chambers.{Chamber, chambers_of, ChamberLimits}
 use Rattle.format.specs.declared.ChamberSizes.{ChamberSizes}
@@ -171,7 +171,8 @@ step_in first s at =
 unfoldable pub step_of : List ℕ → ℕ → ChamberStep
 step_of s j = step_in (is_first s) s (record_offset (is_first s) j)
 
--- the number that record j holds of the record after it, 0 if it is the last; for j = 0 the number of the first record, which the header holds
+-- the number that record j holds of the record after it, 0 if it is the last; for j = 0 the number of the first
+-- record, which the header holds
 unfoldable pub next_of : List ℕ → ℕ → ℕ
 next_of s zero = first_of s
 next_of s (suc j) = u16_at s (record_offset (is_first s) (suc j) + next_at (is_first s))

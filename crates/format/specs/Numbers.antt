@@ -1,4 +1,5 @@
--- Little-endian numbers in a list of bytes, from the byte at a place on, and the bytes of a number. A byte past the end counts as 0.
+-- Little-endian numbers in a list of bytes, from the byte at a place on, and the bytes of a number. A byte past the
+-- end counts as 0.
 use Rattle.std.specs.Prelude.{ℕ, zero, suc, ◌+◌, ◌*◌, ◌/◌, ◌%◌, ◌^◌, List, [], ◌∷◌, get_or}
 
 unfoldable pub byte_at : List ℕ → ℕ → ℕ

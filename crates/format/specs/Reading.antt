@@ -1,5 +1,6 @@
--- What a sheet says: for any list of bytes, either one refusal or the campaign. `read_causes` lists every cause of the reader's refusals, 1 to 7, 13 and 14, in the
--- order in which they are checked: the header's, those of the chain link by link, and those of the steps from the first on. The first that holds decides.
+-- What a sheet says: for any list of bytes, either one refusal or the campaign. `read_causes` lists every cause of the
+-- reader's refusals, 1 to 7, 13 and 14, in the order in which they are checked: the header's, those of the chain link
+-- by link, and those of the steps from the first on. The first that holds decides.
 use Rattle.std.specs.Prelude.{ℕ, ◌+◌, ◌≤◌, ◌⊎◌, Bool, true, false, not, ◌&&◌, ◌||◌, List, [], ◌∷◌, ◌++◌, map, ltb, eqb, length}
 use Rattle.units.specs.Sets.{has_unit_from}
 use Rattle.chambers.specs.Chambers.{Chamber, sum, some_fits}
@@ -28,8 +29,8 @@ form_causes s =
     ∷ cause (not (is_edition (edition_of s))) 2 edition_at
     ∷ []
 
--- refusals 3 and 13: the units, the records, the bytes that are zero in the first edition; the chambers, which in the first edition have d units; the start set, the
--- length
+-- refusals 3 and 13: the units, the records, the bytes that are zero in the first edition; the chambers, which in the
+-- first edition have d units; the start set, the length
 abbrev pub header_causes : List ℕ → List Cause
 header_causes s =
     cause (eqb (units_of s) 0) 3 units_at
@@ -41,7 +42,8 @@ header_causes s =
     ∷ cause (not (eqb (length s) (sheet_length (is_first s) (records_of s)))) 3 header_size
     ∷ []
 
--- refusals 14, 6 and 7 of the step number i: the bytes that are zero; the upper set has a unit from d up; no set is feasible
+-- refusals 14, 6 and 7 of the step number i: the bytes that are zero; the upper set has a unit from d up; no set is
+-- feasible
 abbrev pub step_causes : List Chamber → ℕ → ℕ → ChamberStep → List Cause
 step_causes cs d i x =
     cause (not (eqb x.reserved 0)) 14 i
@@ -76,7 +78,8 @@ read_causes s = open_causes s ++ steps_causes (chambers_in s) (units_of s) 1 (st
 abbrev pub ReaderNumber : ℕ → Type 0
 ReaderNumber n = ((1 ≤ n) × (n ≤ 7)) ⊎ ((13 ≤ n) × (n ≤ 14))
 
--- what a sheet says: its units, the bound on switches, the start set, the number of units of each chamber and the steps in chain order
+-- what a sheet says: its units, the bound on switches, the start set, the number of units of each chamber and the
+-- steps in chain order
 pub record Campaign : Type 0 where
   pub units : ℕ
   pub bound : ℕ

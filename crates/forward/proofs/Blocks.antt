@@ -1,23 +1,19 @@
--- The forward tables in memory: the rows after one step from those before it, those of a block of steps one after the other, and those before each block.
-use mathlib.Core.Path.{◌≡◌, sym, ap, ◌∙◌, subst}
-use mathlib.Core.Logic.{◌⊎◌, inl, inr}
-use mathlib.Core.Bool.{cond}
-use mathlib.Core.List.{List}
-use Prim.Native.Nat.{ℕ, zero, suc, ◌+◌, ◌*◌, ◌-◌, ◌≤◌, ◌<◌}
-use native.Mathlib.Decide.{dec_le}
-use native.Mathlib.Numerals.{add-one}
-use native.Mathlib.Omega.{arith}
-use lib.ListN.{get_or}
-use Rattle.units.specs.Sets.{bit, contains, union, difference}
-use Rattle.units.proofs.Sets.{bit_cases, bit_difference, bit_empty, bit_le}
-use Rattle.plans.specs.Rows.{step_at}
+-- The forward tables in memory: those after each step of a block one after the other, and those before each block.
+use Rattle.std.proofs.Common.{◌≡◌, sym, ap, ◌∙◌, subst, subst₂, List, [], ◌++◌, ℕ, suc, zero, ◌+◌, ◌*◌, ◌-◌, ◌≤◌, ◌<◌, arith, length, get_or, add-one}
+use Rattle.std.proofs.Math.Decide.{dec_lt, ℕ_discrete}
+use Rattle.std.proofs.Math.ListN.{set, get_or-append}
+use Rattle.std.proofs.Math.Seq.{get_or-set_same, get_or-set_other}
+use Rattle.std.proofs.lemmas.List.{get_or-append-add}
+use Rattle.units.specs.Sets.{bit, difference}
+use Rattle.units.proofs.Sets.{bit_empty}
+use Rattle.plans.specs.Steps.{step_at}
 use Rattle.plans.specs.declared.Limits.{Limits}
-use Rattle.tables.specs.Places.{rows_in}
-use Rattle.tables.specs.Tables.{row_count, gathered, held, free, new, come, row_before, turned, set_at, held_at, rows_at, turned_row}
-use Rattle.tables.proofs.Words.{contains_in, contains_out, gathered_same}
-use Rattle.forward.specs.Kept.{block_size, RowsKept, AllKept, SameBelow}
-
--- ---- one step
+use Rattle.tables.specs.Places.{rows_of, plan_step_at}
+use Rattle.tables.specs.declared.PlanStep.{PlanStep}
+use Rattle.tables.specs.Tables.{held, turned, set_at, held_at, rows_at}
+use Rattle.forward.specs.declared.Run.{Run}
+use Rattle.forward.specs.Kept.{block_size, RowsKept, AllKept}
+use Rattle.forward.proofs.Turning.{turned_same}
 
 less_one : (i : ℕ) → suc i - 1 ≡ i
 less_one i = omega arith
@@ -34,98 +30,97 @@ unfolding held_at held
 held_later ss plan zero h = absurd (omega arith)
 held_later ss plan (suc i) h = ap (λ (j : ℕ). difference (get_or plan j 0) (step_at ss j).lower) (less_one i)
 
--- rows that agree on the units held before make the same rows after
-come_same : (p t h : ℕ) (f g : ℕ → ℕ) → ((c : ℕ) → c < row_count → bit h c ≡ 1 → f c ≡ g c) → come p t h f ≡ come p t h g
-unfolding come
-come_same p t h f g same =
-    ap (union p) (gathered_same row_count (difference h t) f g (λ c l e. same c l (omega (arith, bit_difference h t c, bit_le h c))))
+module _ (run : Run) where
+  abbrev start : ℕ
+  start = run.start
 
-row_same : (h : ℕ) (f g : ℕ → ℕ) (b : ℕ) → (bit h b ≡ 1 → f b ≡ g b) → row_before h f b ≡ row_before h g b
-unfolding row_before
-row_same h f g b same = go (bit_cases h b)
-  where
-    go : (bit h b ≡ 0) ⊎ (bit h b ≡ 1) → cond (contains h b) (f b) 0 ≡ cond (contains h b) (g b) 0
-    go (inl e) = rw (contains_out h b e)
-    go (inr e) = rw (contains_in h b e, same e)
+  abbrev ss : List Limits
+  ss = run.steps.now
 
-turned_same : (s : Limits) (p t h : ℕ) (f g : ℕ → ℕ) (b : ℕ) → b < row_count → ((c : ℕ) → c < row_count → bit h c ≡ 1 → f c ≡ g c)
-    → turned s p t h f b ≡ turned s p t h g b
-unfolding turned
-turned_same s p t h f g b l same = rw (come_same p t h f g same, row_same h f g b (same b l))
+  abbrev plan : List ℕ
+  plan = run.plan.now
 
--- a row that is turned with what the definition joins
-pub step_turned : (s : Limits) (p t h : ℕ) (f : ℕ → ℕ) (b : ℕ) {able entering coming : ℕ} → able ≡ difference s.upper t → entering ≡ difference t p
-    → coming ≡ union p (gathered row_count (difference h t) f)
-    → turned_row able entering coming (contains p b) (row_before h f b) ≡ turned s p t h f b
-unfolding turned come free new
-step_turned s p t h f b x y z = rw (x, y, z)
-
--- ---- the rows of the plan
-
-module _ (start : ℕ) (ss : List Limits) (plan : List ℕ) where
   -- before the first step no unit is held
-  pub kept_begun : (l : List ℕ) (at : ℕ) → RowsKept start ss plan 0 l at
+  pub kept_begun : (table : List ℕ) → RowsKept run 0 table
   unfolding held_at
-  kept_begun l at b h e = absurd (omega (arith, bit_empty b))
-
-  -- rows that are copied
-  pub kept_copied : (i : ℕ) (l m : List ℕ) (at to : ℕ) → ((b : ℕ) → b < row_count → get_or m (to + b) 0 ≡ get_or l (at + b) 0)
-      → RowsKept start ss plan i l at → RowsKept start ss plan i m to
-  kept_copied i l m at to same k b h e = same b h ∙ k b h e
+  kept_begun table b h e = absurd (omega (arith, bit_empty b))
 
   -- rows that are turned over the step at i
-  pub kept_turned : (i : ℕ) (l m : List ℕ) (at to : ℕ) → RowsKept start ss plan i l at
+  kept_turned : (i : ℕ) (table next : List ℕ) → RowsKept run i table
       → ((b : ℕ) → bit (held (step_at ss i) (get_or plan i 0)) b ≡ 1
-      → get_or m (to + b) 0 ≡ turned (step_at ss i) (set_at start plan i) (get_or plan i 0) (held_at ss plan i) (rows_in l at) b)
-      → RowsKept start ss plan (i + 1) m to
+      → get_or next b 0 ≡ turned (step_at ss i) (set_at start plan i) (get_or plan i 0) (held_at ss plan i) (rows_of table) b)
+      → RowsKept run (i + 1) next
   unfolding held_at rows_at set_at
-  kept_turned i l m at to k rows = subst (λ (j : ℕ). RowsKept start ss plan j m to) (sym (add-one i)) next
+  kept_turned i table next k rows = subst (λ (j : ℕ). RowsKept run j next) (sym (add-one i)) after
     where
-      next : RowsKept start ss plan (suc i) m to
-      next b u e =
+      after : RowsKept run (suc i) next
+      after b u e =
           rows b e
-          ∙ turned_same (step_at ss i) (set_at start plan i) (get_or plan i 0) (held_at ss plan i) (rows_in l at) (rows_at start ss plan i) b u k
+          ∙ turned_same (step_at ss i) (set_at start plan i) (get_or plan i 0) (held_at ss plan i) (rows_of table) (rows_at start ss plan i) b u k
 
   -- the first rows of a block
-  pub block_begun : (first : ℕ) (l : List ℕ) → RowsKept start ss plan first l 0 → AllKept start ss plan first first l
-  block_begun first l k j h =
+  pub block_begun : (first : ℕ) (tables : List (List ℕ)) → RowsKept run first (get_or tables 0 []) → AllKept run first first tables
+  block_begun first tables k j h =
       let e : j ≡ 0 = omega arith in
-      rw e (subst (λ (i : ℕ). RowsKept start ss plan i l 0) (omega arith) k)
+      rw e (subst (λ (i : ℕ). RowsKept run i (get_or tables 0 [])) (omega arith) k)
 
-  -- the last rows of a block
-  pub block_last : (first i : ℕ) (l : List ℕ) → first ≤ i → AllKept start ss plan first i l → RowsKept start ss plan i l (row_count * (i - first))
-  block_last first i l h all =
-      let e : first + (i - first) ≡ i = omega arith in
-      subst (λ (k : ℕ). RowsKept start ss plan k l (row_count * (i - first))) e (all (i - first) (omega arith))
-
-  -- the rows after one step more
-  pub block_on : (first i : ℕ) (l m : List ℕ) → first ≤ i → AllKept start ss plan first i l → SameBelow (row_count * (i - first) + row_count) l m
-      → RowsKept start ss plan (i + 1) m (row_count * (i - first) + row_count) → AllKept start ss plan first (i + 1) m
-  block_on first i l m h all same k j g = go (dec_le (first + j) i)
+  -- The rows after one step more: the tables are in two parts, of which the first ends with the rows before the step,
+  -- and the next rows are put at the head of the second.
+  pub block_on : (first i : ℕ) (tables done rest : List (List ℕ)) (next : List ℕ) (step : PlanStep) → first ≤ i
+      → AllKept run first i tables → tables ≡ done ++ rest → length done ≡ i - first + 1 → 0 < length rest
+      → step ≡ plan_step_at start ss plan i
+      → ((b : ℕ) → bit (held step.limits step.after) b ≡ 1
+      → get_or next b 0 ≡ turned step.limits step.before step.after step.held (rows_of (get_or done (i - first) [])) b)
+      → AllKept run first (i + 1) (done ++ set rest 0 next)
+  block_on first i tables done rest next step h all parts long room same turn j g = go (dec_lt j (length done))
     where
-      go : Dec (first + j ≤ i) → RowsKept start ss plan (first + j) m (row_count * j)
-      go (yes y) = λ b u e. same (row_count * j + b) (omega arith) ∙ all j y b u e
+      in_done : (k : ℕ) → k < length done → get_or tables k [] ≡ get_or done k []
+      in_done k l = ap (λ (ts : List (List ℕ)). get_or ts k []) parts ∙ get_or-append done rest [] k l
+
+      before : RowsKept run i (get_or done (i - first) [])
+      before =
+          let e : first + (i - first) ≡ i = omega arith in
+          subst₂ (λ (k : ℕ) (table : List ℕ). RowsKept run k table) e (in_done (i - first) (omega arith)) (all (i - first) (omega arith))
+
+      turned-here : (b : ℕ) → bit (held (step_at ss i) (get_or plan i 0)) b ≡ 1
+          → get_or next b 0
+          ≡ turned (step_at ss i) (set_at start plan i) (get_or plan i 0) (held_at ss plan i) (rows_of (get_or done (i - first) [])) b
+      turned-here =
+          subst
+          (λ (s : PlanStep).
+          (b : ℕ) → bit (held s.limits s.after) b ≡ 1 → get_or next b 0 ≡ turned s.limits s.before s.after s.held (rows_of (get_or done (i - first) [])) b)
+          same turn
+
+      go : Dec (j < length done) → RowsKept run (first + j) (get_or (done ++ set rest 0 next) j [])
+      go (yes l) = rw (get_or-append done (set rest 0 next) [] j l, ← in_done j l) (all j (omega arith))
       go (no n) =
-          let e : j ≡ i - first + 1 = omega arith in
           let last : first + j ≡ i + 1 = omega arith in
-          let place : row_count * j ≡ row_count * (i - first) + row_count = omega arith in
-          rw (last, place) k
+          let e : j ≡ length done + 0 = omega arith in
+          rw (last, e, get_or-append-add done (set rest 0 next) 0 [], get_or-set_same rest 0 next [] room)
+          (kept_turned i (get_or done (i - first) []) next before turned-here)
 
   -- the rows before each block up to the k-th
-  abbrev pub CheckpointsTo : ℕ → List ℕ → Type 0
-  CheckpointsTo k l = (j : ℕ) → j ≤ k → RowsKept start ss plan (block_size * j) l (row_count * j)
+  abbrev pub CheckpointsTo : ℕ → List (List ℕ) → Type 0
+  CheckpointsTo k tables = (j : ℕ) → j < k → RowsKept run (block_size * j) (get_or tables j [])
 
-  pub checkpoints_begun : (l : List ℕ) → CheckpointsTo 0 l
-  checkpoints_begun l j h = let e : j ≡ 0 = omega arith in rw e (kept_begun l 0)
+  -- before the first block no unit is held
+  pub checkpoints_begun : (tables : List (List ℕ)) → CheckpointsTo 1 tables
+  checkpoints_begun tables j h = let e : j ≡ 0 = omega arith in rw e (kept_begun (get_or tables 0 []))
 
-  pub checkpoints_on : (k : ℕ) (l m : List ℕ) → CheckpointsTo k l → SameBelow (row_count * k + row_count) l m
-      → RowsKept start ss plan (block_size * k + block_size) m (row_count * k + row_count) → CheckpointsTo (k + 1) m
-  checkpoints_on k l m all same next j h = go (dec_le j k)
+  -- the rows before the block in front of the k-th, put at the head
+  pub checkpoint_copied : (k : ℕ) (tables checkpoints : List (List ℕ)) → 0 < k → 0 < length tables → CheckpointsTo k checkpoints
+      → RowsKept run (block_size * k - block_size) (get_or (set tables 0 (get_or checkpoints (k - 1) [])) 0 [])
+  checkpoint_copied k tables checkpoints h room all =
+      let e : block_size * (k - 1) ≡ block_size * k - block_size = omega arith in
+      rw (get_or-set_same tables 0 (get_or checkpoints (k - 1) []) [] room, ← e) (all (k - 1) (omega arith))
+
+  -- one block more
+  pub checkpoints_on : (k : ℕ) (table : List ℕ) (checkpoints : List (List ℕ)) → 0 < k → k < length checkpoints → CheckpointsTo k checkpoints
+      → RowsKept run (block_size * k - block_size + block_size) table → CheckpointsTo (k + 1) (set checkpoints k table)
+  checkpoints_on k table checkpoints h room all last j l = go (ℕ_discrete j k)
     where
-      go : Dec (j ≤ k) → RowsKept start ss plan (block_size * j) m (row_count * j)
-      go (yes y) = λ b u e. same (row_count * j + b) (omega arith) ∙ all j y b u e
-      go (no n) =
-          let e : j ≡ k + 1 = omega arith in
-          let steps : block_size * j ≡ block_size * k + block_size = omega arith in
-          let place : row_count * j ≡ row_count * k + row_count = omega arith in
-          rw (steps, place) next
+      go : Dec (j ≡ k) → RowsKept run (block_size * j) (get_or (set checkpoints k table) j [])
+      go (yes e) =
+          let same : block_size * k - block_size + block_size ≡ block_size * k = omega arith in
+          rw (e, get_or-set_same checkpoints k table [] room, ← same) last
+      go (no n) = rw (get_or-set_other checkpoints k j table [] n) (all j (omega arith))

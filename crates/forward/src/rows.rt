@@ -1,79 +1,57 @@
-// Rows of words, one for each unit: joined over a set of units, and turned over a step.
-ghost use Rattle.std.specs.Prelude.{◌≡◌, ℕ, ◌≤◌, ◌<◌, ◌+◌, length, get_or};
-ghost use Rattle.units.specs.Sets.{bit, contains};
-ghost use Rattle.tables.specs.Places.{rows_in};
-ghost use Rattle.tables.specs.Tables.{row_count, gathered, row_before, turned_row};
-ghost use Rattle.forward.specs.Kept.{SameBelow};
+// The rows of a table: joined over a set of units, and turned over a step.
+ghost use Rattle.std.specs.Prelude.{◌≡◌, ℕ, ◌<◌};
+ghost use Rattle.units.specs.Sets.{bit};
+ghost use Rattle.tables.specs.Places.{rows_of};
+ghost use Rattle.tables.specs.Tables.{row_count, gathered, held, row_before, turned, turned_row};
 
-use units::{choose, contains, intersection, lowest, meets, union, without_lowest};
+use tables::{PlanStep, Table};
+use units::{Units, choose, contains, difference, intersection, meets, union};
 
-// The rows of the units of a set, joined. They stand from place `at` on.
-pub fn gather(rows: &[u64], at: usize, set: u64) -> u64
-    requires { at + row_count ≤ length rows.now }
-    ensures { result ≡ gathered row_count set (rows_in rows.now at) }
+// The rows of the units of a set, joined.
+fn gather(table: &Table, set: u64) -> u64
+    ensures { result ≡ gathered row_count set (rows_of table.now) }
 {
     let mut found = 0;
-    let mut left = set;
-    while 0 < left {
-        let b = lowest(left);
-        found = union(found, rows[at + b as usize]);
-        left = without_lowest(left);
+    for b in Units::of(set) {
+        found = union(found, table[b as usize]);
     }
     found
 }
 
 // The row of a unit after a step, from its row before.
-fn turn_row(free: u64, new: u64, coming: u64, on: bool, row: u64) -> u64
-    ensures { result ≡ turned_row free new coming on row }
+#[tactic(auto, unfolding(tables::specs::Tables::turned_row))]
+fn turn_row(free: u64, entering: u64, coming: u64, on: bool, row: u64) -> u64
+    ensures { result ≡ turned_row free entering coming on row }
 {
-    let stays = intersection(free, union(coming, row));
-    choose(on, choose(meets(row, new), free, stays), free)
-}
-
-// The row of unit b in rows from place `at` on, if b is in the set, or an empty one.
-fn row_before(rows: &[u64], at: usize, set: u64, b: u32) -> u64
-    requires row_count_in_bounds { at + row_count ≤ length rows.now }
-    requires b_bound { b < 64 }
-    ensures { result ≡ row_before set (rows_in rows.now at) b }
-{
-    if contains(set, b) {
-        rows[at + b as usize]
+    if on && !meets(row, entering) {
+        intersection(free, union(coming, row))
     } else {
-        0
+        free
     }
 }
 
-// What the rows of a step have in common, going forward: the units held before, those on before, the free and the new ones, and those that come.
-#[derive(Drop)]
-pub struct Crossing {
-    pub held: u64,
-    pub on: u64,
-    pub free: u64,
-    pub new: u64,
-    pub coming: u64,
+// The row of unit b, if b is in the set, or an empty one.
+#[tactic(auto, unfolding(tables::specs::Tables::row_before))]
+fn row_before(table: &Table, set: u64, b: u32) -> u64
+    requires { b < 64 }
+    ensures { result ≡ row_before set (rows_of table.now) b }
+{
+    choose(contains(set, b), table[b as usize], 0)
 }
 
-// Writes the rows of the units of a set after a step, from place `to` on, where those of the units held before stand from place `from` on.
-pub fn turn(rows: &mut [u64], from: usize, to: usize, over: Crossing, set: u64)
-    requires row_count_bound { from + row_count ≤ to }
-    requires row_count_in_bounds { to + row_count ≤ length rows.old }
-    ensures by_index { (b : ℕ) → bit set b ≡ 1
-        → get_or rows.new (to + b) 0
-        ≡ turned_row over.free over.new over.coming (contains over.on b)
-        (row_before over.held (rows_in rows.old from) b) }
-    ensures same_below { SameBelow to rows.old rows.new }
+// Writes the rows of the units held after a step to `next`, where `table` has those of the units held before it.
+pub fn turn_step(step: PlanStep, table: &Table, next: &mut Table)
+    ensures { (b : ℕ) → bit (held step.limits step.after) b ≡ 1
+        → rows_of next.new b ≡ turned step.limits step.before step.after step.held (rows_of table.now) b }
 {
-    let mut left = set;
-    while 0 < left {
-        let b = lowest(left);
-        let row = row_before(rows, from, over.held, b);
-        rows[to + b as usize] = turn_row(
-            over.free,
-            over.new,
-            over.coming,
-            contains(over.on, b),
-            row,
-        );
-        left = without_lowest(left);
+    let free = step.free();
+    let entering = step.entering();
+    let coming = union(
+        step.before,
+        gather(table, difference(step.held, step.after)),
+    );
+    for b in Units::of(step.held_after()) {
+        let row = row_before(table, step.held, b);
+        next[b as usize] = turn_row(free, entering, coming, contains(step.before, b), row);
     }
 }

@@ -1,6 +1,6 @@
-// What is said of any bytes without planning: the reply that goes with the list of steps, and the verdict on a plan
-// made elsewhere, each with its refusals in their order. Nothing here is an open entry of the library: `warm` has the
-// entries.
+// What is said of any bytes without planning: the list of steps with the numbers of the sheet, and the verdict on a
+// plan made elsewhere, each with its refusals in their order. Nothing here is an open entry of the library: `warm` has
+// the entries.
 #![tactic(auto)]
 
 pub mod steps;

@@ -1,33 +1,36 @@
-// What `warm_steps` replies: refusals 1 to 8, 13 and 14, or what the sheet says.
-ghost use Rattle.std.specs.Prelude.{◌≡◌};
-ghost use Rattle.promises.specs.Steps.{steps_answer, steps_reply};
+// The steps of a sheet as a list: refusals 1 to 8, 13 and 14, or what the sheet says.
+ghost use Rattle.std.specs.Prelude.{◌≡◌, ◌≤◌, length};
+ghost use Rattle.format.specs.Reading.{steps_of};
+ghost use Rattle.promises.specs.Common.{written};
+ghost use Rattle.promises.specs.Replies.{summary_reply};
+ghost use Rattle.promises.specs.Steps.{warm_steps};
 
-use promises::StepsReply;
-use replies::steps_refused;
-use sheet::ReadAnswer;
+use format::{Cause, ChamberStep, Refusal, Summary};
+use sheet::Sheet;
+use sheet::open::read;
 
-// The reply where the list has that many places: refusals 1 to 8, 13 and 14, or what the sheet says.
-pub fn steps_reply(sheet: &[u8], places: usize) -> StepsReply
-    ensures { result ≡ steps_reply (steps_answer sheet.now places) }
+// Puts the steps of a sheet into the first places of the list.
+fn put_steps(sheet: Sheet, list: &mut [ChamberStep])
+    requires { sheet.summary.steps ≤ length list.old }
+    ensures { list.new ≡ written (steps_of sheet.entry.bytes.now) list.old }
 {
-    match sheet::open::read(sheet) {
-        ReadAnswer::Refused(x) => steps_refused(x.number, x.place),
-        ReadAnswer::Read(x) => {
-            if places < x.steps as usize {
-                return steps_refused(8, x.steps);
-            }
-            let h = x.header;
-            let z = h.sizes;
-            StepsReply {
-                refusal: 0,
-                place: 0,
-                units: h.units,
-                steps: x.steps,
-                bound: h.bound,
-                reserved: 0,
-                start: h.start,
-                chambers: [z.first, z.second, z.third, z.fourth],
-            }
-        }
+    for (i, step) in sheet.steps().enumerate() {
+        list[i] = step;
     }
+}
+
+// The steps of a sheet into the first places of the list, and what else the sheet says.
+pub fn list_steps(bytes: &[u8], list: &mut [ChamberStep]) -> Result<Summary, Refusal>
+    ensures { (summary_reply result, list.new) ≡ warm_steps bytes.now list.old }
+{
+    let sheet = read(bytes)?;
+    let many = sheet.summary.steps;
+    if list.len() < many as usize {
+        return Err(Refusal {
+            cause: Cause::ShortOutput,
+            place: many,
+        });
+    }
+    put_steps(sheet, list);
+    Ok(sheet.summary)
 }

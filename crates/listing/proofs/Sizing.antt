@@ -1,23 +1,23 @@
--- The loop over the steps of a sheet that puts their sizes (`Sizing`). The sizes have at most two digits, since each is that of a set of at most 64 units
--- (`all_short`), and so a line has no more bytes than there is room for.
-use mathlib.Core.Path.{◌≡◌, refl, ap, subst}
+-- The loop over the steps of a sheet that puts their sizes (`Sizing`). The sizes have at most two digits, since each
+-- is that of a set of at most 64 units (`all_short`), and so a line has no more bytes than there is room for.
+use mathlib.Core.Path.{◌≡◌, sym, ap, subst}
 use mathlib.Core.List.{List, [], ◌∷◌, ◌++◌, map}
-use Prim.Native.Nat.{ℕ, ◌+◌, ◌-◌, ◌*◌, ◌≤◌, ◌<◌}
+use Prim.Native.Nat.{ℕ, ◌+◌, ◌*◌, ◌≤◌, ◌<◌}
 use native.Mathlib.Omega.{arith}
 use lib.ListN.{length, length-append}
-use Rattle.units.specs.Limits.{HasSize}
+use Rattle.std.specs.Prelude.{Option, Some, None}
+use Rattle.units.specs.Limits.{HasSize, InOrder}
 use Rattle.units.specs.declared.Sizes.{Sizes}
-use Rattle.units.specs.declared.Sizes.TheVariants.{Between, NoSet}
 use Rattle.units.proofs.Sets.{size_below, subset_below}
 use Rattle.chambers.specs.Chambers.{Chamber, ChamberLimits, sizes_in}
 use Rattle.chambers.proofs.Bench.{Bench, below_in}
 use Rattle.chambers.proofs.Sizes.{sizes_in_ordered, sizes_in_exact}
-use Rattle.format.specs.Chain.{Inside, steps_from}
-use Rattle.format.specs.Format.{unit_limit, record_limit, limits_of, next_of, step_of}
+use Rattle.format.specs.declared.ChamberStep.{ChamberStep}
+use Rattle.format.specs.Format.{unit_limit, record_limit, limits_of}
 use Rattle.promises.specs.Digits.{decimal}
 use Rattle.promises.specs.Listing.{field, blank, line_end, sizes_line, sizes_lines}
-use Rattle.sheet.proofs.Along.{Along, along_begun, along_on, steps_next, steps_none}
-use Rattle.writer.specs.Placed.{Placed}
+use Rattle.listing.specs.declared.text.Text.{Text}
+use Rattle.listing.specs.Puts.{Puts}
 use Rattle.listing.specs.Room.{sizes_most, TwoDigits}
 use Rattle.listing.proofs.Numerals.{decimal_width}
 use Rattle.listing.proofs.Putting.{Putting, none_put, line_put, all_put}
@@ -42,75 +42,65 @@ all_short d cs (s ∷ ss) few b = (
         let (x, (f, is)) = (sizes_in_exact cs s b.apart (below_in d cs b.whole s.upper b.sound.0.0) k).1 h in
         omega (arith, is, size_below d x (subset_below d x s.upper f.within b.sound.0.0))
 
-    short : (z : Sizes) → ((i j : ℕ) → z ≡ Between i j → i ≤ j) → ((k : ℕ) → HasSize z k → k < 100) → TwoDigits z
-    short (Between least most) o h = let l = o least most refl in (h least (omega arith, l), h most (l, omega arith))
-    short NoSet o h = tt
+    short : (z : Option Sizes) → InOrder z → ((k : ℕ) → HasSize z k → k < 100) → TwoDigits z
+    short (Some z) o h = (h z.few (omega arith, o), h z.many (o, omega arith))
+    short None o h = tt
 
 -- a line has no more bytes than there is room for
-sizes_width : (i : ℕ) (z : Sizes) → i < 1000 → TwoDigits z → length (sizes_line i z) ≤ sizes_most
+sizes_width : (i : ℕ) (z : Option Sizes) → i < 1000 → TwoDigits z → length (sizes_line i z) ≤ sizes_most
 unfolding sizes_line
-sizes_width i (Between few many) h two =
+sizes_width i (Some z) h two =
     omega (
       arith,
-      length-append (decimal i ++ field blank few ++ field blank many) line_end,
-      length-append (decimal i ++ field blank few) (field blank many),
-      length-append (decimal i) (field blank few),
+      length-append (decimal i ++ field blank z.few ++ field blank z.many) line_end,
+      length-append (decimal i ++ field blank z.few) (field blank z.many),
+      length-append (decimal i) (field blank z.few),
       decimal_width 2 i h,
-      decimal_width 1 few two.0,
-      decimal_width 1 many two.1,
+      decimal_width 1 z.few two.0,
+      decimal_width 1 z.many two.1,
     )
-sizes_width i NoSet h two = omega arith
+sizes_width i None h two = omega arith
 
 -- ---- the loop
 
--- the first n steps of the chain, and those that are left after i of them, the last of which is in record `at`
-abbrev limits_along : List ℕ → ℕ → List ChamberLimits
-limits_along s n = map limits_of (steps_from s 0 n)
+-- the lines of some steps, which are numbered from i on
+abbrev pub lines_of : List Chamber → ℕ → List ChamberStep → List ℕ
+lines_of cs i xs = sizes_lines cs i (map limits_of xs)
 
-abbrev limits_left : List ℕ → ℕ → ℕ → ℕ → List ChamberLimits
-limits_left s n at i = map limits_of (steps_from s at (n - i))
+-- after so many of n steps: the sizes of those that are left are short, and their lines complete the text
+pub record Sizing (cs : List Chamber) (n : ℕ) (all left : List ChamberStep) (begun : Text) (count : ℕ) (text : Text) : Type 0 where
+  pub many : count + length left ≡ n
+  pub short : AllShort cs (map limits_of left)
+  pub lines : Putting (lines_of cs 1 all) (lines_of cs (count + 1) left) begun text (sizes_most * count)
 
--- after i of n steps: those that are left are on the chain, their sizes are short, and their lines complete the text
-pub record Sizing (cs : List Chamber) (s : List ℕ) (n : ℕ) (out₀ : List ℕ) (at i : ℕ) (out : List ℕ) (next : ℕ) : Type 0 where
-  pub along : Along s n at i
-  pub short : AllShort cs (limits_left s n at i)
-  pub lines : Putting (sizes_lines cs 1 (limits_along s n)) (sizes_lines cs (i + 1) (limits_left s n at i)) out₀ 0 out next (sizes_most * i)
+pub sizing_begun : (cs : List Chamber) (n : ℕ) (all : List ChamberStep) (begun : Text) → begun.len ≤ length begun.out.now → length all ≡ n → AllShort cs (map limits_of all)
+    → Sizing cs n all all begun 0 begun
+sizing_begun cs n all begun fits long short = record { many = omega arith; short = short; lines = none_put (lines_of cs 1 all) begun fits }
 
-pub sizing_begun : (cs : List Chamber) (s : List ℕ) (n : ℕ) (out₀ : List ℕ) → Inside s 0 n → AllShort cs (limits_along s n) → Sizing cs s n out₀ 0 0 out₀ 0
-sizing_begun cs s n out₀ inside short =
-    let all : n - 0 ≡ n = omega arith in
-    record {
-      along = along_begun s n inside;
-      short = rw all short;
-      lines = rw all (none_put (sizes_lines cs 1 (limits_along s n)) out₀ 0 (omega arith));
-    }
+module _ {cs : List Chamber} {n : ℕ} {all left : List ChamberStep} {begun : Text} {count : ℕ} {text : Text} (g : Sizing cs n all left begun count text) where
+  module _ {x : ChamberStep} {rest : List ChamberStep} (e : left ≡ x ∷ rest) where
+    shorts : TwoDigits (sizes_in cs (limits_of x)) × AllShort cs (map limits_of rest)
+    shorts = subst (λ xs. AllShort cs (map limits_of xs)) e g.short
 
-module _ {cs : List Chamber} {s : List ℕ} {n : ℕ} {out₀ : List ℕ} {at i : ℕ} {out : List ℕ} {next : ℕ} (g : Sizing cs s n out₀ at i out next) where
-  -- the step that comes next
-  abbrev coming : ChamberLimits
-  coming = limits_of (step_of s (next_of s at))
-
-  module _ (more : i < n) where
-    shorts : TwoDigits (sizes_in cs coming) × AllShort cs (limits_left s n (next_of s at) (i + 1))
-    shorts = subst (λ xs. AllShort cs (map limits_of xs)) (steps_next s n at i more) g.short
-
-    pub next_short : TwoDigits (sizes_in cs coming)
+    -- the sizes of the step that comes next are short
+    pub next_short : TwoDigits (sizes_in cs (limits_of x))
     next_short = shorts.0
 
     -- its line is put
-    pub sizing_on : n ≤ record_limit → {out' : List ℕ} {next' : ℕ} → Placed (sizes_line (i + 1) (sizes_in cs coming)) out next out' next'
-        → Sizing cs s n out₀ (next_of s at) (i + 1) out' next'
+    pub sizing_on : n ≤ record_limit → {after : Text} → Puts (sizes_line (count + 1) (sizes_in cs (limits_of x))) text after
+        → {k : ℕ} → k ≡ count + 1 → Sizing cs n all rest begun k after
     unfolding sizes_lines
-    sizing_on few put =
-        record {
-          along = along_on g.along more;
+    sizing_on few {after} put c =
+        subst (λ (k : ℕ). Sizing cs n all rest begun k after) (sym c)
+        (record {
+          many = omega (arith, g.many, ap length e);
           short = shorts.1;
           lines =
-              line_put g.lines (ap (λ xs. sizes_lines cs (i + 1) (map limits_of xs)) (steps_next s n at i more))
-              (sizes_width (i + 1) (sizes_in cs coming) (omega arith) next_short) (omega arith) put;
-        }
+              line_put g.lines (ap (lines_of cs (count + 1)) e)
+              (sizes_width (count + 1) (sizes_in cs (limits_of x)) (omega (arith, g.many, ap length e)) next_short) (omega arith) put;
+        })
 
   -- all lines are put
-  pub sizing_done : n ≤ i → Placed (sizes_lines cs 1 (limits_along s n)) out₀ 0 out next
+  pub sizing_done : left ≡ [] → Puts (lines_of cs 1 all) begun text
   unfolding sizes_lines
-  sizing_done h = all_put g.lines (ap (λ xs. sizes_lines cs (i + 1) (map limits_of xs)) (steps_none s n at i h))
+  sizing_done e = all_put g.lines (ap (lines_of cs (count + 1)) e)

@@ -9,6 +9,7 @@ use lib.Seq.{drop-cons}
 use Rattle.plans.specs.Switch.{switches}
 use Rattle.promises.specs.Digits.{decimal, hexadecimal}
 use Rattle.promises.specs.Listing.{field, blank, line_end, step_line, step_lines}
+use Rattle.listing.specs.declared.text.Text.{Text}
 use Rattle.listing.specs.Room.{step_most}
 use Rattle.listing.proofs.Numerals.{decimal_width, hexadecimal_length}
 use Rattle.listing.proofs.Putting.{Putting}
@@ -38,8 +39,8 @@ line_width i x many h k =
 abbrev lines_left : List ℕ → ℕ → ℕ → List ℕ
 lines_left plan i before = step_lines (i + 1) before (drop i plan)
 
-abbrev pub Stepping : ℕ → List ℕ → List ℕ → ℕ → ℕ → ℕ → List ℕ → ℕ → Type 0
-Stepping start plan out₀ at i before out next = Putting (step_lines 1 start plan) (lines_left plan i before) out₀ at out next (step_most * i)
+abbrev pub Stepping : ℕ → List ℕ → ℕ → ℕ → Text → Text → Type 0
+Stepping start plan i before begun text = Putting (step_lines 1 start plan) (lines_left plan i before) begun text (step_most * i)
 
 pub next_line : (plan : List ℕ) (i before : ℕ) → i < length plan
     → let x = get_or plan i 0 in lines_left plan i before ≡ step_line (i + 1) x (switches before x) ++ lines_left plan (i + 1) x

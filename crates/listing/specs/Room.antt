@@ -1,10 +1,10 @@
 -- The most bytes of a line of a listing, and of a listing.
-use Rattle.std.specs.Prelude.{ℕ, ◌+◌, ◌*◌, ◌<◌}
+use Rattle.std.specs.Prelude.{ℕ, ◌+◌, ◌*◌, ◌<◌, Option, IfSome}
 use Rattle.units.specs.declared.Sizes.{Sizes}
-use Rattle.units.specs.declared.Sizes.TheVariants.{Between, NoSet}
 use Rattle.format.specs.Format.{record_limit}
 
--- the first line, with three numbers of 32 bits; that of a step; the last; that of a refusal; and that of a step's sizes
+-- the first line, with three numbers of 32 bits; that of a step; the last; that of a refusal; and that of a step's
+-- sizes
 abbrev pub first_most : ℕ
 first_most = 51
 
@@ -26,6 +26,5 @@ abbrev pub longest_listing : ℕ
 longest_listing = first_most + record_limit * step_most + total_most
 
 -- each size has at most two digits
-abbrev pub TwoDigits : Sizes → Type 0
-TwoDigits (Between few many) = (few < 100) × (many < 100)
-TwoDigits NoSet = Unit {0}
+abbrev pub TwoDigits : Option Sizes → Type 0
+TwoDigits sizes = IfSome sizes (λ z. (z.few < 100) × (z.many < 100))

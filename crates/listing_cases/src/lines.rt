@@ -1,76 +1,58 @@
-// The lines of the longest sheet, looked for in a text.
-ghost use Rattle.std.specs.Prelude.{◌≤◌, length};
+// The texts of full sheets, and whether a text is what a value prints.
+use std::fmt;
+use std::fmt::Write;
 
-use sheet::Sheet;
+// What is left of a text once what is written to it was found at its start.
+#[derive(Drop)]
+struct Unread<'a> {
+    text: &'a [u8],
+}
 
-// Whether the line stands in the text at that place.
-pub fn is_at(text: &[u8], at: usize, line: &[u8]) -> bool
-    requires at_bound { at ≤ 65536 }
-    requires line_len_bound { length line.now ≤ 65536 }
-{
-    let end = at + line.len();
-    if text.len() < end {
-        return false;
+impl<'a> fmt::Write for Unread<'a> {
+    fn write_str(&mut self, s: &str) -> fmt::Result {
+        self.text = self.text.strip_prefix(s.as_bytes()).ok_or(fmt::Error)?;
+        Ok(())
     }
-    check::same(&text[at..end], line)
 }
 
-// How many of three digits a step's number has.
-fn digits_of(step: usize) -> usize
-    ensures { result ≤ 3 }
-{
-    if step < 10 {
-        return 1;
-    }
-    if step < 100 {
-        return 2;
-    }
-    3
+// Whether a text is what a value prints.
+pub fn is_printed(text: &[u8], expected: &(impl fmt::Display)) -> bool {
+    let mut unread = Unread { text };
+    write!(unread, "{expected}").is_ok() && unread.text.is_empty()
 }
 
-fn digit(x: usize) -> u8 {
-    48 + (x % 10) as u8
-}
+// The listing of the longest sheet, in which the lower and the upper half of the units are on in turns.
+#[derive(Clone, Copy)]
+pub struct Halves;
 
-// Whether the number of a step stands in the text at that place.
-fn has_number(text: &[u8], at: usize, step: usize) -> bool
-    requires { at ≤ 65536 }
-{
-    let digits = [digit(step / 100), digit(step / 10), digit(step)];
-    let from = 3 - digits_of(step);
-    is_at(text, at, &digits[from..])
-}
-
-// Whether one of two endings stands there, which the steps have in turns.
-fn has_ending(text: &[u8], at: usize, step: usize, odd: &[u8], even: &[u8]) -> bool
-    requires at_bound { at ≤ 65536 }
-    requires odd_len_bound { length odd.now ≤ 65536 }
-    requires even_len_bound { length even.now ≤ 65536 }
-{
-    if step % 2 == 1 {
-        return is_at(text, at, odd);
-    }
-    is_at(text, at, even)
-}
-
-// Whether the text has, from a place on, a line for each step of the longest sheet: its number, and one of two endings of one length.
-pub fn has_lines(text: &[u8], from: usize, odd: &[u8], even: &[u8]) -> bool
-    requires from_bound { from ≤ 100 }
-    requires odd_len_bound { length odd.now ≤ 100 }
-    requires even_len_bound { length even.now ≤ 100 }
-{
-    let mut at = from;
-    let mut step = 1;
-    while step <= Sheet::RECORD_LIMIT {
-        if !has_number(text, at, step) {
-            return false;
+impl fmt::Display for Halves {
+    fn fmt<W: fmt::Write>(&self, f: &mut fmt::Formatter<W>) -> fmt::Result {
+        writeln!(f, "units 64 steps 256 bound 65535")?;
+        for step in 1..=256 {
+            let set = if step % 2 == 1 {
+                u64::MAX >> 32
+            } else {
+                u64::MAX << 32
+            };
+            writeln!(f, "{step} {set:016x} 32")?;
         }
-        at += digits_of(step);
-        if !has_ending(text, at, step, odd, even) {
-            return false;
-        }
-        at += odd.len();
-        step += 1;
+        writeln!(f, "total 8192")
     }
-    true
+}
+
+// The listing of the sizes of the longest sheet, with the least and the greatest size of its steps in turns.
+#[derive(Clone, Copy)]
+pub struct InTurns {
+    pub odd: (u8, u8),
+    pub even: (u8, u8),
+}
+
+impl fmt::Display for InTurns {
+    fn fmt<W: fmt::Write>(&self, f: &mut fmt::Formatter<W>) -> fmt::Result {
+        for step in 1..=256 {
+            let (least, greatest) = if step % 2 == 1 { self.odd } else { self.even };
+            writeln!(f, "{step} {least} {greatest}")?;
+        }
+        Ok(())
+    }
 }

@@ -1,5 +1,5 @@
--- The plans that `plans_of` lists are the feasible ones (`listed_feasible`, `feasible_listed`), and what is said of all plans in the laws on the chart
--- (`Shows`, `SomePlan`).
+-- The plans that `plans_of` lists are the feasible ones (`listed_feasible`, `feasible_listed`), and what is said of
+-- all plans in the laws on the chart (`Shows`, `SomePlan`).
 use mathlib.Core.Path.{◌≡◌, refl, sym, ap, ◌∙◌, subst}
 use mathlib.Core.Logic.{⊎_elim, ◌↔◌}
 use mathlib.Core.Bool.{Bool, true, false, cond, false≢true, and-eq-true_iff}

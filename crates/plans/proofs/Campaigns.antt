@@ -1,5 +1,6 @@
--- Worked campaigns of two units or four, computed from the definitions: the plan that is handed out against all plans, its ties, and a chart. A definition of another
--- planner, as one that fills early, ranks by what is past or by need alone, makes a row false.
+-- Worked campaigns of two units or four, computed from the definitions: the plan that is handed out against all plans,
+-- its ties, and a chart. A definition of another planner, as one that fills early, ranks by what is past or by need
+-- alone, makes a row false.
 use mathlib.Core.Path.{◌≡◌, refl}
 use mathlib.Core.Bool.{cond}
 use mathlib.Core.List.{List, [], ◌∷◌, map}
@@ -9,7 +10,7 @@ use lib.Dec.{ltb, eqb}
 use Rattle.units.specs.Sets.{bit, union, intersection, difference, contains, insert, remove, is_subset, size, units_below}
 use Rattle.plans.specs.declared.Limits.{Limits}
 use Rattle.plans.specs.Plans.{select, below, allows, prefixed, plans_of, least_of, fewest, plans_within, joined, joined_all, can_be_on, can_be_off}
-use Rattle.plans.specs.Rows.{limits}
+use Rattle.plans.specs.Steps.{limits}
 use Rattle.plans.specs.Support.{next_required, next_forbidden, required_first, ranks_by, first_in, taken, support_set, support_from, find_support_by, find_support}
 use Rattle.plans.specs.Switch.{switches, total, later_total}
 
@@ -24,7 +25,8 @@ narrow = limits 0 3 0 1
 abbrev asks : ℕ → ℕ → Limits
 asks lower upper = limits lower upper 0 2
 
--- No unit joins that need not. Of two units the one that is needed next stays. One that is banned before its need leaves, though it is needed earlier.
+-- No unit joins that need not. Of two units the one that is needed next stays. One that is banned before its need
+-- leaves, though it is needed earlier.
 pub plans_best :
     Best 0 (asks 1 3 ∷ [])
     × (Best 3 (narrow ∷ asks 1 3 ∷ [])
@@ -39,14 +41,16 @@ low = limits 0 3 1 1
 abbrev high : Limits
 high = limits 0 12 1 1
 
--- Which of two tied units joins: by the house rule the higher number; else the one that the order of the step has first, in step 1 the lower and then the higher.
+-- Which of two tied units joins: by the house rule the higher number; else the one that the order of the step has
+-- first, in step 1 the lower and then the higher.
 pub ties_broken :
     (find_support 0 (low ∷ high ∷ []) ≡ 2 ∷ 8 ∷ [])
     × (find_support_by (λ i u v. cond (eqb i 1) (ltb u v) (ltb v u)) 0 (low ∷ high ∷ []) ≡ 1 ∷ 8 ∷ [])
 unfolding bit union intersection difference contains insert remove size units_below next_required next_forbidden required_first ranks_by first_in taken support_set support_from find_support_by ones ones_in
 ties_broken = (refl, refl)
 
--- with both units on before the first step, the total of FindSupport's plan is the least, over all plans, of the switches from the second step on
+-- with both units on before the first step, the total of FindSupport's plan is the least, over all plans, of the
+-- switches from the second step on
 abbrev BestLater : List Limits → Type 0
 BestLater ss = total 3 (find_support 3 ss) ≡ least_of (map later_total (plans_of allows 2 ss))
 

@@ -1,5 +1,6 @@
--- The cells of the chart: `can_be_on` and `can_be_off` have unit u in step i exactly if some feasible plan within the bound has it on there, or off
--- (`cell`, `cell_on`); there is one for each step (`cell_count`), and none has a unit from d up (`cell_beyond`).
+-- The cells of the chart: `can_be_on` and `can_be_off` have unit u in step i exactly if some feasible plan within the
+-- bound has it on there, or off (`cell`, `cell_on`); there is one for each step (`cell_count`), and none has a unit
+-- from d up (`cell_beyond`).
 use mathlib.Core.Path.{◌≡◌, refl, sym, ap, ◌∙◌, fun_ext}
 use mathlib.Core.Logic.{⊎_elim, ◌↔◌}
 use mathlib.Core.Bool.{Bool, true, false}

@@ -1,5 +1,5 @@
--- The first k units of a set in an order: what is meant by them (`Chosen`), that `taken` has them (`taken_chosen`), and that no other set does
--- (`chosen_unique`).
+-- The first k units of a set in an order: what is meant by them (`Chosen`), that `taken` has them (`taken_chosen`),
+-- and that no other set does (`chosen_unique`).
 use mathlib.Core.Path.{◌≡◌, refl, sym, ◌∙◌}
 use mathlib.Core.Logic.{◌⊎◌, inl, inr, ⊎_elim}
 use mathlib.Core.Bool.{Bool, true, false, cond, false≢true}
@@ -25,7 +25,8 @@ pub record Chosen (before : ℕ → ℕ → Bool) (k c g : ℕ) : Type 0 where
   pub ahead : (v w : ℕ) → bit g v ≡ 1 → bit c w ≡ 1 → bit g w ≡ 0 → before v w ≡ true
 
 module _ {before : ℕ → ℕ → Bool} (o : Ordered before) where
-  -- the unit that `first_in` picks of a list is the first: of the head and the first of the tail it is the one that goes before the other
+  -- the unit that `first_in` picks of a list is the first: of the head and the first of the tail it is the one that
+  -- goes before the other
   pub first_in_lem : (u : ℕ) (us : List ℕ) → Foremost before (λ x. Memᴰ x (u ∷ us)) (first_in before (u ∷ us))
   unfolding first_in
   first_in_lem u [] = record { member = Memᴰ.head refl; least = λ x m. rw (Memᴰ.eq_of_singleton m) (o.irreflexive u) }
@@ -99,8 +100,8 @@ module _ {before : ℕ → ℕ → Bool} (o : Ordered before) where
       let f = first_of_set c (omega arith) in
       one_more k c u (taken before k (remove c u)) f (taken_chosen k (remove c u) (omega (arith, size_remove c u f.member)))
 
-  -- Two sets of the first k units are the same. A unit that only one of them had would go before one that only the other has, which there is, as
-  -- the sizes are equal; and that one before the first.
+  -- Two sets of the first k units are the same. A unit that only one of them had would go before one that only the
+  -- other has, which there is, as the sizes are equal; and that one before the first.
   chosen_within : {k c g h : ℕ} → Chosen before k c g → Chosen before k c h → Subset g h
   chosen_within {k} {c} {g} {h} p q u = go (bit_cases g u) (bit_cases h u)
     where

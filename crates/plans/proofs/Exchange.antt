@@ -11,7 +11,8 @@ use Rattle.plans.specs.Switch.{Allows, FeasiblePlan, switches, total}
 use Rattle.plans.proofs.Stands.{StandsFor}
 use Rattle.plans.proofs.Totals.{switches_both, switches_from}
 
--- the steps ss have a plan that is no worse by `cost` than any by `other`: for each feasible plan P some feasible plan Q costs no more
+-- the steps ss have a plan that is no worse by `cost` than any by `other`: for each feasible plan P some feasible plan
+-- Q costs no more
 abbrev pub NoWorse : List Limits → (List ℕ → ℕ) → (List ℕ → ℕ) → Type 0
 NoWorse ss cost other = (P : List ℕ) → FeasiblePlan ss P → (Q : List ℕ) × (FeasiblePlan ss Q × (cost Q ≤ other P))
 
@@ -26,10 +27,10 @@ allows_exchange s x v w xv xw lw uv a =
       few = omega (arith, size_insert x v xv, size_insert x w xw);
     }
 
--- Let b have neither v nor w, and let v stand for w. Then b with v is as good a start as b with w.
--- Of a plan whose first set p has v, or lacks w, nothing changes: v spares at least what w did. Else p has w and lacks v. Then v is not required
--- and w may be on, so v may take w's place in p, which costs the same from b with v as p does from b with w. With p less w for b, the same holds
--- of the steps that follow, over which v stands for w still.
+-- Let b have neither v nor w, and let v stand for w. Then b with v is as good a start as b with w. Of a plan whose
+-- first set p has v, or lacks w, nothing changes: v spares at least what w did. Else p has w and lacks v. Then v is
+-- not required and w may be on, so v may take w's place in p, which costs the same from b with v as p does from b with
+-- w. With p less w for b, the same holds of the steps that follow, over which v stands for w still.
 pub exchange : (ss : List Limits) (b v w : ℕ) → bit b v ≡ 0 → bit b w ≡ 0 → StandsFor ss v w
     → NoWorse ss (total (insert b v)) (total (insert b w))
 unfolding total StandsFor

@@ -1,5 +1,5 @@
--- `fewest` is the total of each feasible plan that no other undercuts (`fewest_of`), and so that of FindSupport's plan, whatever orders break its ties
--- (`support_fewest`).
+-- `fewest` is the total of each feasible plan that no other undercuts (`fewest_of`), and so that of FindSupport's
+-- plan, whatever orders break its ties (`support_fewest`).
 use mathlib.Core.Path.{◌≡◌, refl, sym, ap}
 use mathlib.Core.Logic.{⊎_elim, ◌↔◌}
 use mathlib.Core.Bool.{Bool, true}

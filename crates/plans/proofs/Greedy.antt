@@ -1,5 +1,6 @@
--- The set that FindSupport takes in a step is greedy by the ranking (`support_in_lem`); so it is greedy with the steps in view, for every ranking that
--- fits them (`support_greedy`), and so is the plan, whatever orders break its ties (`plan_greedy`).
+-- The set that FindSupport takes in a step is greedy by the ranking (`support_in_lem`); so it is greedy with the steps
+-- in view, for every ranking that fits them (`support_greedy`), and so is the plan, whatever orders break its ties
+-- (`plan_greedy`).
 use mathlib.Core.Path.{◌≡◌, refl}
 use mathlib.Core.Bool.{Bool, true}
 use mathlib.Core.List.{List, [], ◌∷◌}
@@ -19,7 +20,8 @@ use Rattle.plans.proofs.Stands.{StandsFor, Greedy, GreedyIn, GreedyPlan}
 
 -- ---- the set of a step
 
--- what is known of one unit: its digits in the set before, in the step's lower and upper set, and in those that `support_set` goes through
+-- what is known of one unit: its digits in the set before, in the step's lower and upper set, and in those that
+-- `support_set` goes through
 record Digits (before lower upper begun leaving kept joining support : ℕ) : Type 0 where
   digit : before ≤ 1
   room : lower ≤ upper
@@ -82,8 +84,9 @@ module _ (ranks : ℕ → ℕ → Bool) (s : Limits) (before : ℕ) where
     support_size =
         rw support_is (omega (arith, size_union kept joining (λ u. omega (arith, digits_of u, bit_le s.upper u)), joining_chosen.counted))
 
-    -- The set of the step is greedy by the ranking. Where a unit leaves, there were more than the greatest number, so that none joins, and each unit that is kept
-    -- and not required ranks before it. Where a unit joins, fewer than the least number were kept, and it ranks before all that may be on and are not.
+    -- The set of the step is greedy by the ranking. Where a unit leaves, there were more than the greatest number, so
+    -- that none joins, and each unit that is kept and not required ranks before it. Where a unit joins, fewer than the
+    -- least number were kept, and it ranks before all that may be on and are not.
     pub support_in_lem : GreedyIn ranks s before (support_set ranks s before)
     support_in_lem = record {
       allowed = record {
@@ -110,8 +113,8 @@ module _ (ranks : ℕ → ℕ → Bool) (s : Limits) (before : ℕ) where
           );
     }
 
-  -- If the ranking fits, a unit that ranks before another stands for it over the later steps, where it is not required now and the other is allowed
-  -- now. So the set is greedy with those steps in view.
+  -- If the ranking fits, a unit that ranks before another stands for it over the later steps, where it is not required
+  -- now and the other is allowed now. So the set is greedy with those steps in view.
   pub support_greedy : (ss : List Limits) → Refines (s ∷ ss) ranks → (x : ℕ) → Allows s x → Greedy s ss before (support_set ranks s before)
   unfolding StandsFor
   support_greedy ss r x f =

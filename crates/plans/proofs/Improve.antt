@@ -20,13 +20,13 @@ apart x y = switches x y + switches y x
 abbrev pub AsGood : List Limits → ℕ → ℕ → ℕ → Type 0
 AsGood ss before x y = NoWorse ss (λ P. switches before x + total x P) (λ P. switches before y + total y P)
 
--- From any feasible set x one can walk to the greedy set g, each time to a set that is feasible, nearer to g and as good. There are three moves.
--- Where x has a unit w outside g and lacks a unit v of g, v takes the place of w. Either v was on before and w was off: then v spares a switch now,
--- and w can spare but one later, so that the plan may stay. Or v stands for w, as `Greedy` says, and `exchange` gives a plan.
--- Where x is within g, a unit of g joins. It was on before, for g takes in others only at the least number, and x has fewer units than g.
--- So it costs nothing.
--- Where g is within x, a unit outside g leaves. It was off before, for g gives up others only at the greatest number, and x has more units than g.
--- So it spares a switch now, and could spare but one later.
+-- From any feasible set x one can walk to the greedy set g, each time to a set that is feasible, nearer to g and as
+-- good. There are three moves. Where x has a unit w outside g and lacks a unit v of g, v takes the place of w. Either
+-- v was on before and w was off: then v spares a switch now, and w can spare but one later, so that the plan may stay.
+-- Or v stands for w, as `Greedy` says, and `exchange` gives a plan. Where x is within g, a unit of g joins. It was on
+-- before, for g takes in others only at the least number, and x has fewer units than g. So it costs nothing. Where g
+-- is within x, a unit outside g leaves. It was off before, for g gives up others only at the greatest number, and x
+-- has more units than g. So it spares a switch now, and could spare but one later.
 module _ (ss : List Limits) {s : Limits} {before g : ℕ} (greedy : Greedy s ss before g) where
   -- what a move from x leads to
   record Nearer (x : ℕ) : Type 0 where

@@ -1,50 +1,17 @@
--- Steps in memory: the step at i is the four words from place 4 i on. Words in the first places of a list, and steps from one of them on.
-use mathlib.Core.Path.{◌≡◌, refl, sym, ap, ap₂, ◌∙◌, subst}
+-- Words in the first places of a list, and the steps from one of them on.
+use mathlib.Core.Path.{◌≡◌, sym, ap, ◌∙◌, subst}
 use mathlib.Core.Bool.{true}
 use mathlib.Core.List.{List, [], ◌∷◌, ◌++◌}
-use Prim.Native.Nat.{ℕ, zero, suc, ◌+◌, ◌-◌, ◌*◌, ◌<◌, ◌≤◌}
+use Prim.Native.Nat.{ℕ, zero, suc, ◌+◌, ◌<◌, ◌≤◌}
 use native.Mathlib.Numerals.{add-one}
 use native.Mathlib.Omega.{arith}
-use lib.ListN.{length, get_or, take, drop}
-use lib.Seq.{sets, sets-eq, take_at, drop-cons}
+use lib.ListN.{length, drop}
+use lib.Seq.{sets, sets-eq, drop-cons}
 use Rattle.units.specs.Limits.{has_feasible}
 use Rattle.plans.specs.Plans.{Below}
-use Rattle.plans.specs.Rows.{row_size, step_limit, limits, rows_of, steps_in, step_at, Rows}
+use Rattle.plans.specs.Steps.{limits, step_at}
 use Rattle.plans.specs.declared.Limits.{Limits}
 use Rattle.plans.specs.Switch.{Satisfiable}
-
--- ---- words
-
-pub rows_length : (ss : List Limits) → length (rows_of ss) ≡ row_size * length ss
-unfolding rows_of
-rows_length [] = refl
-rows_length (s ∷ ss) = omega (arith, rows_length ss)
-
-pub rows_steps : (ss : List Limits) → steps_in (rows_of ss) ≡ ss
-unfolding rows_of steps_in
-rows_steps [] = refl
-rows_steps (s ∷ ss) = ap (λ rest. s ∷ rest) (rows_steps ss)
-
--- the words of few steps
-pub rows_laid : (ss : List Limits) → length ss ≤ step_limit → Rows (rows_of ss)
-rows_laid ss h =
-    let many = ap length (rows_steps ss) in
-    record { whole = omega (arith, rows_length ss, many); few = omega (arith, many) }
-
-pub step_in_lem : (w : List ℕ) (i : ℕ) → i < length (steps_in w)
-    → limits (get_or w (4 * i) 0) (get_or w (4 * i + 1) 0) (get_or w (4 * i + 2) 0) (get_or w (4 * i + 3) 0) ≡ step_at (steps_in w) i
-unfolding steps_in step_at
-step_in_lem [] i h = absurd (omega arith)
-step_in_lem (l ∷ []) i h = absurd (omega arith)
-step_in_lem (l ∷ u ∷ []) i h = absurd (omega arith)
-step_in_lem (l ∷ u ∷ m ∷ []) i h = absurd (omega arith)
-step_in_lem (l ∷ u ∷ m ∷ g ∷ w) zero h = refl
-step_in_lem (l ∷ u ∷ m ∷ g ∷ w) (suc i) h =
-    let at : 4 * suc i ≡ suc (suc (suc (suc (4 * i)))) = omega arith in
-    let at_1 : 4 * suc i + 1 ≡ suc (suc (suc (suc (4 * i + 1)))) = omega arith in
-    let at-2 : 4 * suc i + 2 ≡ suc (suc (suc (suc (4 * i + 2)))) = omega arith in
-    let at-3 : 4 * suc i + 3 ≡ suc (suc (suc (suc (4 * i + 3)))) = omega arith in
-    rw (at_1, at-2, at-3, at) (step_in_lem w i (omega arith))
 
 -- ---- words in the first places of a list
 
@@ -54,11 +21,9 @@ sets_first words out h =
     let all : 0 + length words ≡ length words = omega arith in
     sets-eq words out 0 (omega arith) ∙ ap (λ (k : ℕ). words ++ drop k out) all
 
--- what is lent of them, where they are n
-pub sets_part : (words out : List ℕ) (n : ℕ) → length words ≡ n → n ≤ length out → take (n - 0) (sets out 0 words) ≡ words
-sets_part words out n e h =
-    let all : n - 0 ≡ n = omega arith in
-    ap₂ take all (sets_first words out (omega arith)) ∙ take_at words (drop (length words) out) n e
+-- the same, where they are n
+pub sets_placed : {A : Type 0} (words out : List A) (n : ℕ) → length words ≡ n → n ≤ length out → words ++ drop n out ≡ sets out 0 words
+sets_placed words out n e h = ap (λ (k : ℕ). words ++ drop k out) (sym e) ∙ sym (sets_first words out (omega arith))
 
 -- ---- the steps from one on
 

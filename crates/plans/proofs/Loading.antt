@@ -1,5 +1,5 @@
--- Where all units below d are on before the first step, loading it makes no switch: the total of a feasible plan is then the one counted from its second step
--- on (`total_later`).
+-- Where all units below d are on before the first step, loading it makes no switch: the total of a feasible plan is
+-- then the one counted from its second step on (`total_later`).
 use mathlib.Core.Path.{◌≡◌, refl, ap, ◌∙◌}
 use mathlib.Core.List.{List, [], ◌∷◌}
 use Prim.Native.Nat.{ℕ, ◌-◌, ◌^◌}
@@ -14,7 +14,8 @@ none_new : (before x : ℕ) → Subset x before → switches before x ≡ 0
 unfolding switches
 none_new before x h = ap size (set_ext (difference x before) 0 (λ u. omega (arith, bit_difference x before u, h u, bit_empty u))) ∙ size_empty
 
--- so the total of a plan of units below d, counted from all of them, is the one from its second step on, for steps of any kind
+-- so the total of a plan of units below d, counted from all of them, is the one from its second step on, for steps of
+-- any kind
 pub total_later : {S : Type 0} (A : S → ℕ → Type 0) (d : ℕ) (ss : List S) (p : List ℕ) → Low A d ss → Throughout A ss p → total (2 ^ d - 1) p ≡ later_total p
 unfolding total later_total
 total_later A d [] [] b f = refl

@@ -7,8 +7,8 @@ use Rattle.plans.specs.Switch.{FeasiblePlan, switches, total}
 use Rattle.plans.proofs.Stands.{GreedyPlan}
 use Rattle.plans.proofs.Improve.{improve}
 
--- Of a plan that begins with p, `improve` makes one that begins with the greedy set x and is as good, and by induction no rest is better than
--- the greedy one.
+-- Of a plan that begins with p, `improve` makes one that begins with the greedy set x and is as good, and by induction
+-- no rest is better than the greedy one.
 pub optimal : (before : ℕ) (ss : List Limits) (plan : List ℕ) → GreedyPlan before ss plan
     → FeasiblePlan ss plan × ((P : List ℕ) → FeasiblePlan ss P → total before plan ≤ total before P)
 unfolding GreedyPlan total

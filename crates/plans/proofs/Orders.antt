@@ -1,5 +1,5 @@
--- Strict orders of the units, as tests, and how one is made of others: from last to first, by a number of each unit, and by classes. The house rule is one
--- (`tie_ordered`).
+-- Strict orders of the units, as tests, and how one is made of others: from last to first, by a number of each unit,
+-- and by classes. The house rule is one (`tie_ordered`).
 use mathlib.Core.Path.{◌≡◌, refl, sym, ◌∙◌}
 use mathlib.Core.Logic.{◌⊎◌, inl, inr, ⊎_elim, ⊎_map}
 use mathlib.Core.Bool.{Bool, true, false, cond, ◌&&◌, ◌||◌, false≢true}
@@ -100,8 +100,9 @@ lexical_ordered key {tie} o = record {
     total u v t (no g) (no l) =
         ⊎_map (λ h. lexical_made key tie u v (omega arith) (λ k. h)) (λ h. lexical_made key tie v u (omega arith) (λ k. h)) t
 
--- By classes: the units for which a test holds go before the rest, and each class has an order of its own. Here a and b are the test of the two
--- units, and x and y say whether the first goes before the second in the one class and in the other.
+-- By classes: the units for which a test holds go before the rest, and each class has an order of its own. Here a and
+-- b are the test of the two units, and x and y say whether the first goes before the second in the one class and in
+-- the other.
 abbrev pub classed : Bool → Bool → Bool → Bool → Bool
 classed a b x y = cond a (cond b x true) (cond b false y)
 

@@ -1,5 +1,6 @@
--- A unit that FindSupport ranks before another stands for it (`ranks_refines`), whatever order breaks ties. All that this uses of the ranking is that it is an
--- order and that it has the better units first, those preferred by need and ban alone (`better_refines`).
+-- A unit that FindSupport ranks before another stands for it (`ranks_refines`), whatever order breaks ties. All that
+-- this uses of the ranking is that it is an order and that it has the better units first, those preferred by need and
+-- ban alone (`better_refines`).
 use mathlib.Core.Path.{◌≡◌, refl, sym, ◌∙◌}
 use mathlib.Core.Logic.{⊎_elim}
 use mathlib.Core.Bool.{Bool, true, false, cond, false≢true}
@@ -69,8 +70,8 @@ module _ (n i : ℕ) (s : Limits) (ss : List Limits) (h : i + length (s ∷ ss) 
   unfolding better required_first next_required next_forbidden contains
   better_later u v a b c d = rw (a, b, c, d)
 
-  -- Among units required now, and among units forbidden now, the tie order decides the ranking; units that the step leaves open are ranked as from the
-  -- next step on.
+  -- Among units required now, and among units forbidden now, the tie order decides the ranking; units that the step
+  -- leaves open are ranked as from the next step on.
   pub required_tied : (tie : ℕ → ℕ → Bool) (u v : ℕ) → bit s.lower u ≡ 1 → bit s.upper u ≡ 1 → bit s.lower v ≡ 1 → bit s.upper v ≡ 1
       → ranks_by tie n i (s ∷ ss) u v ≡ tie u v
   unfolding ranks_by required_first next_required next_forbidden contains
@@ -92,8 +93,8 @@ pub ended_tied : (tie : ℕ → ℕ → Bool) (n i u v : ℕ) → ranks_by tie n
 unfolding ranks_by required_first next_required next_forbidden
 ended_tied tie n i u v = rw (le-ltb (n + 2) (n + 1) (omega arith), le-ltb (n + 1) (n + 1) (omega arith), eq-eqb (n + 1) (n + 1) refl)
 
--- A unit v stands for every unit w that is not better. If v is not required now and w is allowed now, then w is not required and v is allowed: else
--- w would be better. So both are free now, and w is not better from the next step on.
+-- A unit v stands for every unit w that is not better. If v is not required now and w is allowed now, then w is not
+-- required and v is allowed: else w would be better. So both are free now, and w is not better from the next step on.
 pub not_better_stands : (n i : ℕ) (ss : List Limits) (v w : ℕ) → i + length ss ≡ n + 1 → better n i ss w v ≡ false → StandsFor ss v w
 unfolding StandsFor
 not_better_stands n i [] v w h b = tt

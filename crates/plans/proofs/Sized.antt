@@ -1,6 +1,7 @@
--- A step with the least and the greatest size of its feasible sets in the place of its two numbers has the same feasible sets (`sized_allows`), and FindSupport
--- takes the same set in it (`sized_set`), since what that begins with includes the lower set and lies within the upper one. So the plans, the chart and the
--- plan that is handed out are those of the steps as they are.
+-- A step with the least and the greatest size of its feasible sets in the place of its two numbers has the same
+-- feasible sets (`sized_allows`), and FindSupport takes the same set in it (`sized_set`), since what that begins with
+-- includes the lower set and lies within the upper one. So the plans, the chart and the plan that is handed out are
+-- those of the steps as they are.
 use mathlib.Core.Path.{◌≡◌, refl, sym, ap, ap₂, ◌∙◌, subst, fun_ext}
 use mathlib.Core.Logic.{◌↔◌}
 use mathlib.Core.Bool.{Bool, true, false, cond, ◌&&◌}
@@ -14,7 +15,7 @@ use Rattle.units.proofs.Limits.{same_test, either_way, some_feasible}
 use Rattle.units.proofs.Sets.{bit_difference, bit_intersection, bit_union, size_difference_le, size_mono}
 use Rattle.plans.specs.declared.Limits.{Limits}
 use Rattle.plans.specs.Plans.{allows, Below, select, below, prefixed, is_feasible, plans_of, plans_within, can_be_on, can_be_off, can_be}
-use Rattle.plans.specs.Rows.{limits}
+use Rattle.plans.specs.Steps.{limits}
 use Rattle.plans.specs.Support.{next_required, next_forbidden, required_first, tie_order, ranks_by, taken, support_set, support_from, find_support_by, find_support}
 use Rattle.plans.specs.Switch.{Allows, sized_by, sized, Satisfiable}
 use Rattle.plans.proofs.AllPlans.{allows_exactly}
@@ -64,7 +65,8 @@ module _ (s : Limits) where
       let old = allows_exactly s x in
       same_test (allows (sized s) x) (allows s x) (λ e. old.1 ((sized_allows x).0 (new.0 e))) (λ e. new.1 ((sized_allows x).1 (old.0 e)))
 
-  -- FindSupport takes the same set: as many units leave, since there are no more than the upper set has, and as many join, since the lower set stays
+  -- FindSupport takes the same set: as many units leave, since there are no more than the upper set has, and as many
+  -- join, since the lower set stays
   pub sized_set : {ranks : ℕ → ℕ → Bool} → Ordered ranks → (before : ℕ) → support_set ranks (sized s) before ≡ support_set ranks s before
   unfolding support_set
   sized_set {ranks} o before = by_sizes (λ t. support_set ranks t before ≡ support_set ranks s before) go refl

@@ -1,4 +1,5 @@
--- What one unit more does to the switches of a step (`switches_insert`, `switches_from`) and to those of a plan (`total_from`).
+-- What one unit more does to the switches of a step (`switches_insert`, `switches_from`) and to those of a plan
+-- (`total_from`).
 use mathlib.Core.Path.{◌≡◌, refl}
 use mathlib.Core.List.{List, [], ◌∷◌}
 use Prim.Native.Nat.{ℕ, ◌+◌, ◌-◌, ◌≤◌}

@@ -1,5 +1,6 @@
--- What is said of all plans: the fewest switches of any feasible plan, and which units some plan within a bound has on, or off, in a step. It is said of
--- steps of any kind, of which a test says what a step allows; `allows` is the test of the steps that `Limits` describes.
+-- What is said of all plans: the fewest switches of any feasible plan, and which units some plan within a bound has
+-- on, or off, in a step. It is said of steps of any kind, of which a test says what a step allows; `allows` is the
+-- test of the steps that `Limits` describes.
 use Rattle.std.specs.Prelude.{ℕ, zero, suc, ◌-◌, ◌^◌, ◌<◌, min, Bool, true, false, cond, ◌&&◌, List, [], ◌∷◌, ◌++◌, map, leb, length, replicate}
 use Rattle.units.specs.Sets.{union, difference, is_subset, size}
 use Rattle.plans.specs.declared.Limits.{Limits}

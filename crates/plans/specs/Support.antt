@@ -1,5 +1,5 @@
--- FindSupport, the plan that is handed out, and the order that breaks its ties. Steps have their numbers from 1 in the whole campaign of n steps; a list of steps
--- is the rest of it from the step with number i on.
+-- FindSupport, the plan that is handed out, and the order that breaks its ties. Steps have their numbers from 1 in the
+-- whole campaign of n steps; a list of steps is the rest of it from the step with number i on.
 use Rattle.std.specs.Prelude.{ℕ, zero, suc, ◌+◌, ◌-◌, ◌≡◌, ◌⊎◌, Bool, true, false, cond, ◌||◌, ◌&&◌, List, [], ◌∷◌, ltb, eqb, length}
 use Rattle.units.specs.Sets.{union, intersection, difference, contains, insert, remove, size, units_below}
 use Rattle.plans.specs.declared.Limits.{Limits}
@@ -24,8 +24,8 @@ required_first n i ss u = ltb (next_required n i ss u) (next_forbidden n i ss u)
 
 -- ---- the ranking
 
--- a strict total order of the units, as a test: no unit goes before itself, one that goes before a second goes before all that the second goes before, and of
--- two units one goes before the other
+-- a strict total order of the units, as a test: no unit goes before itself, one that goes before a second goes before
+-- all that the second goes before, and of two units one goes before the other
 pub record Ordered (before : ℕ → ℕ → Bool) : Type 0 where
   pub irreflexive : (u : ℕ) → before u u ≡ false
   pub transitive : (u v w : ℕ) → before u v ≡ true → before v w ≡ true → before u w ≡ true
@@ -35,8 +35,8 @@ pub record Ordered (before : ℕ → ℕ → Bool) : Type 0 where
 abbrev pub tie_order : ℕ → ℕ → Bool
 tie_order u v = ltb v u
 
--- Unit u ranks before unit v. Those required first go before the rest; among them, the one required earlier; among the rest, the one forbidden
--- later; on a tie, the order `tie` decides.
+-- Unit u ranks before unit v. Those required first go before the rest; among them, the one required earlier; among the
+-- rest, the one forbidden later; on a tie, the order `tie` decides.
 unfoldable pub ranks_by : (ℕ → ℕ → Bool) → ℕ → ℕ → List Limits → ℕ → ℕ → Bool
 ranks_by tie n i ss u v =
     cond (required_first n i ss u)
@@ -71,8 +71,9 @@ taken before (suc k) c =
 
 -- ---- the plan
 
--- what is on in step s where `before` was on and `ranks` is the ranking: what was on and may be, and what must be. If that is too much, units outside
--- the lower set leave, last in rank first; if it is too little, units of the upper set join, first in rank first.
+-- what is on in step s where `before` was on and `ranks` is the ranking: what was on and may be, and what must be. If
+-- that is too much, units outside the lower set leave, last in rank first; if it is too little, units of the upper set
+-- join, first in rank first.
 unfoldable pub support_set : (ℕ → ℕ → Bool) → Limits → ℕ → ℕ
 support_set ranks s before =
     let begun = union (intersection before s.upper) s.lower in

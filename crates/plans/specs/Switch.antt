@@ -1,9 +1,8 @@
 -- The SWITCH constraint on steps in a fixed order: which plans are feasible, and how many switches a plan makes.
-use Rattle.std.specs.Prelude.{ℕ, ◌+◌, ◌≡◌, true, List, [], ◌∷◌}
+use Rattle.std.specs.Prelude.{ℕ, ◌+◌, ◌≡◌, true, Option, Some, None, List, [], ◌∷◌}
 use Rattle.plans.specs.declared.Limits.{Limits}
 use Rattle.units.specs.Limits.{Feasible, feasible_sizes, has_feasible}
 use Rattle.units.specs.declared.Sizes.{Sizes}
-use Rattle.units.specs.declared.Sizes.TheVariants.{Between, NoSet}
 use Rattle.units.specs.Sets.{difference, size}
 
 -- x is a feasible set of the step (fit, in docs/FORMAT.md)
@@ -11,13 +10,13 @@ abbrev pub Allows : Limits → ℕ → Type 0
 Allows s x = Feasible s.lower s.upper s.least s.greatest x
 
 -- the least and the greatest size of a feasible set of the step, or that there is none
-abbrev pub sizes_of : Limits → Sizes
+abbrev pub sizes_of : Limits → Option Sizes
 sizes_of s = feasible_sizes s.lower s.upper s.least s.greatest
 
 -- the step with these two sizes in the place of its two numbers, or as it is where there is none
-abbrev pub sized_by : Limits → Sizes → Limits
-sized_by s (Between few many) = record { lower = s.lower; upper = s.upper; least = few; greatest = many }
-sized_by s NoSet = s
+abbrev pub sized_by : Limits → Option Sizes → Limits
+sized_by s (Some z) = record { lower = s.lower; upper = s.upper; least = z.few; greatest = z.many }
+sized_by s None = s
 
 unfoldable pub sized : Limits → Limits
 sized s = sized_by s (sizes_of s)

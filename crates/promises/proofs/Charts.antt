@@ -1,4 +1,5 @@
--- Laws on the chart of a sheet that was read: it has a word for each step, and its cells say what plans that meet the sheet do.
+-- Laws on the chart of a sheet that was read: it has a word for each step, and its cells say what plans that meet the
+-- sheet do.
 use mathlib.Core.Path.{◌≡◌, ◌∙◌}
 use mathlib.Core.Logic.{◌↔◌}
 use mathlib.Core.Bool.{Bool, cond}

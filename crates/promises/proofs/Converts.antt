@@ -1,5 +1,6 @@
--- Laws on the answer of `warm_to_edition_1` and `warm_to_edition_2`, by its stages, and what a converted sheet has in common with the one that it was converted from
--- (`converted_from`): it is the same sheet, or both have all of their units in the first chamber, and then both are the case of one chamber, with the same steps.
+-- Laws on the answer of `warm_to_edition_1` and `warm_to_edition_2`, by its stages, and what a converted sheet has in
+-- common with the one that it was converted from (`converted_from`): it is the same sheet, or both have all of their
+-- units in the first chamber, and then both are the case of one chamber, with the same steps.
 use mathlib.Core.Path.{◌≡◌, refl, sym, ap, ap₂, ◌∙◌, subst}
 use mathlib.Core.Logic.{◌↔◌, ◌⊎◌, inl, inr}
 use mathlib.Core.Bool.{Bool, true, false, not, ◌&&◌}
@@ -309,7 +310,8 @@ module _ (s : List ℕ) (ok : Passes s) (first : is_first s ≡ true) where
 
 -- ---- sheets that agree
 
--- Sheets of which the reader says the same but for tags, and which have as many records, get the same reply: the same refusal, or the same length.
+-- Sheets of which the reader says the same but for tags, and which have as many records, get the same reply: the same
+-- refusal, or the same length.
 module _ (first : Bool) (s t : List ℕ) (same : read_untagged s ≡ read_untagged t) (many : records_of s ≡ records_of t) where
   -- 15 and 8, where the reader passes both
   same_causes : Passes s → Passes t → without_tags (campaign_of s) ≡ without_tags (campaign_of t) → (places : ℕ)

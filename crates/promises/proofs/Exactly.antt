@@ -1,5 +1,5 @@
--- An entry whose reply and memory are a function of its answer answers exactly: demand 1 for each entry is one application. And where a result says that nothing
--- was refused, no cause held.
+-- An entry whose reply and memory are a function of its answer answers exactly: demand 1 for each entry is one
+-- application. And where a result says that nothing was refused, no cause held.
 use mathlib.Core.Path.{◌≡◌, sym, ap, ◌∙◌}
 use mathlib.Core.List.{List}
 use Prim.Native.Nat.{ℕ}

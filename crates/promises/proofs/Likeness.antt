@@ -1,5 +1,6 @@
--- Sheets of which the reader says the same get the same replies, if those that it passes are alike (`Alike`): each entry gives the reader's refusal, or else a reply that is
--- made of what they have in common. Sheets that are read the same but for tags are alike (`untagged_alike`).
+-- Sheets of which the reader says the same get the same replies, if those that it passes are alike (`Alike`): each
+-- entry gives the reader's refusal, or else a reply that is made of what they have in common. Sheets that are read the
+-- same but for tags are alike (`untagged_alike`).
 use mathlib.Core.Path.{◌≡◌, refl, sym, ap, ap₂, ◌∙◌}
 use mathlib.Core.Bool.{cond, not, ◌&&◌}
 use mathlib.Core.List.{List, [], ◌∷◌, ◌++◌, map, map-map, map-append}

@@ -2,6 +2,7 @@
 use mathlib.Core.Path.{◌≡◌, refl, sym, ap, ◌∙◌}
 use mathlib.Core.List.{List, [], ◌∷◌, ◌++◌, map}
 use Prim.Native.Nat.{ℕ, ◌+◌, ◌≤◌, ◌<◌}
+use Rattle.std.specs.Prelude.{Option}
 use Rattle.units.specs.declared.Sizes.{Sizes}
 use Rattle.chambers.specs.Chambers.{Chamber, ChamberLimits, sizes_in}
 use Rattle.plans.specs.Switch.{total}
@@ -63,7 +64,7 @@ pub lines_by_sizes : (cs ds : List Chamber) (i : ℕ) (ss ts : List ChamberLimit
 unfolding sizes_lines
 lines_by_sizes cs ds i ss ts e = lines cs i ss ∙ ap (lines_of i) e ∙ sym (lines ds i ts)
   where
-    lines_of : ℕ → List Sizes → List ℕ
+    lines_of : ℕ → List (Option Sizes) → List ℕ
     lines_of i [] = []
     lines_of i (z ∷ zs) = sizes_line i z ++ lines_of (i + 1) zs
 

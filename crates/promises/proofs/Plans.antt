@@ -1,5 +1,6 @@
--- Laws on the answer of `warm_plan`: what it is by what the reader says, by the output's places and by the bound. The total that is compared with the
--- bound is that of FindSupport's plans, put together, which no feasible plan undercuts, so that it is the fewest.
+-- Laws on the answer of `warm_plan`: what it is by what the reader says, by the output's places and by the bound. The
+-- total that is compared with the bound is that of FindSupport's plans, put together, which no feasible plan
+-- undercuts, so that it is the fewest.
 use mathlib.Core.Path.{◌≡◌, sym, ap, ◌∙◌}
 use mathlib.Core.Bool.{Bool}
 use mathlib.Core.List.Memᴰ
@@ -37,7 +38,8 @@ plan_length_on s =
     ∙ length-map (steps_of s) limits_of
 
 module _ (s : List ℕ) {x : Summary} (e : summary_read s ≡ Given x) where
-  -- FindSupport's plan is feasible, has the fewest switches, and no feasible plan has fewer, whatever orders break its ties
+  -- FindSupport's plan is feasible, has the fewest switches, and no feasible plan has fewer, whatever orders break its
+  -- ties
   pub fewest_by : {ties : ℕ → ℕ → ℕ → Bool} → ((i : ℕ) → Ordered (ties i)) → FeasibleOn s (support_by ties s)
       × ((total (start_of s) (support_by ties s) ≡ fewest_on s) × ((q : List ℕ) → FeasibleOn s q → fewest_on s ≤ total (start_of s) q))
   unfolding fewest_on

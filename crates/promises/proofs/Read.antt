@@ -1,4 +1,5 @@
--- What is known of a sheet that was read: the numbers of its summary, and its chambers and its steps without their tags (`bench`).
+-- What is known of a sheet that was read: the numbers of its summary, and its chambers and its steps without their
+-- tags (`bench`).
 use mathlib.Core.Path.{◌≡◌, sym, ap, ◌∙◌, subst}
 use mathlib.Core.List.{List, [], ◌∷◌, map}
 use Prim.Native.Nat.{ℕ, ◌^◌, ◌≤◌, ◌<◌}

@@ -1,6 +1,7 @@
--- Two sheets that agree but for the start set: s passes the checks, and the start set of t holds all units. So t passes the checks too, since the one cause that
--- looks at the start set holds of neither, and it has the bound, the chambers and, but for tags, the steps of s (`restarted`). From the start set of t, loading the first step
--- makes no switch (`total_restarted`).
+-- Two sheets that agree but for the start set: s passes the checks, and the start set of t holds all units. So t
+-- passes the checks too, since the one cause that looks at the start set holds of neither, and it has the bound, the
+-- chambers and, but for tags, the steps of s (`restarted`). From the start set of t, loading the first step makes no
+-- switch (`total_restarted`).
 use mathlib.Core.Path.{◌≡◌, sym, ap, ap₂, ◌∙◌, subst}
 use mathlib.Core.Logic.{◌↔◌}
 use mathlib.Core.Bool.{false}

@@ -1,5 +1,6 @@
--- A sheet with all of its units in the first chamber is the case of one chamber (`single`), whatever its edition: the other chambers have no unit, and what its steps say of
--- them plays no part. A sheet of edition 1 is such a sheet (`first_is_single`).
+-- A sheet with all of its units in the first chamber is the case of one chamber (`single`), whatever its edition: the
+-- other chambers have no unit, and what its steps say of them plays no part. A sheet of edition 1 is such a sheet
+-- (`first_is_single`).
 use mathlib.Core.Path.{◌≡◌, sym, ap, ap₂, ◌∙◌, subst}
 use mathlib.Core.Bool.{Bool, true, false, cond}
 use mathlib.Core.List.{List, map}

@@ -1,14 +1,14 @@
--- Laws on the answer of `warm_steps`: what it is by what the reader says, what may then be filled, and that this writes what the definition says.
+-- Laws on the answer of `warm_steps`: what it is by what the reader says, what may then be filled, and that this
+-- writes what the definition says.
 use mathlib.Core.Path.{◌≡◌, refl, sym, ap, ◌∙◌, subst}
 use mathlib.Core.List.{List, ◌++◌}
 use Prim.Native.Nat.{ℕ, ◌≤◌, ◌<◌}
-use native.Mathlib.Omega.{arith}
 use lib.ListN.{length, drop}
 use borrow.Author.Tests.{ltb-false}
 use Rattle.format.specs.declared.ChamberStep.{ChamberStep}
 use Rattle.format.specs.declared.Summary.{Summary}
 use Rattle.format.specs.Answer.{Answer, Refused, Given, unless}
-use Rattle.format.specs.Chain.{Inside, steps_from}
+use Rattle.format.specs.Chain.{steps_from}
 use Rattle.format.specs.Reading.{steps_of, read_causes, Campaign, campaign_of}
 use Rattle.format.specs.Stages.{summary_of, summary_read}
 use Rattle.format.proofs.Answers.{none_left, unless_append, passed_first, given_same, all_passed, unless_given, refused_whatever}
@@ -38,17 +38,6 @@ module _ (s : List ℕ) (places : ℕ) where
       let f = sym steps_staged ∙ e in
       let p = passed_first _ _ _ (unless_given (read_causes s) _ f) in
       (all_passed (read_causes s) _ f (Given (summary_of s)), (given_same (none_left _ ∙ p.1), ltb-false places (length (steps_of s)) p.0))
-
-  -- what the reply asks to be filled lies within the sheet and within the list
-  pub fill_asked : Inside s 0 (steps_reply (steps_answer s places)).steps × ((steps_reply (steps_answer s places)).steps ≤ places)
-  unfolding steps_reply Inside campaign_of
-  fill_asked = go (steps_answer s places) refl
-    where
-      go : (a : Answer Campaign) → steps_answer s places ≡ a → Inside s 0 (steps_reply a).steps × ((steps_reply a).steps ≤ places)
-      go (Refused n p) e = (tt, omega arith)
-      go (Given c) e =
-          let r = given_answer e in
-          subst (λ (d : Campaign). Inside s 0 (length d.steps) × (length d.steps ≤ places)) r.1.0 ((was_opened s r.0).inside, r.1.1)
 
 -- the steps after the header, as many as the reply says, are what the list then holds
 pub filled : (s : List ℕ) (out : List ChamberStep)

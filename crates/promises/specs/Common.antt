@@ -14,12 +14,13 @@ use Rattle.promises.specs.declared.Written.{Written}
 abbrev pub limits_on : List ℕ → List ChamberLimits
 limits_on s = map limits_of (steps_of s)
 
--- what they ask of one chamber, with the sizes of its feasible sets in the place of its two numbers: so they are decoded
+-- what they ask of one chamber, with the sizes of its feasible sets in the place of its two numbers: so they are
+-- decoded
 abbrev pub sized_in : List ℕ → Chamber → List Limits
 sized_in s c = map sized (parts_of c (limits_on s))
 
--- a feasible plan of a sheet (a fit plan, in docs/FORMAT.md): each step's set includes the lower set, lies within the upper set, and has in each chamber a number of units
--- from that chamber's least to its greatest number
+-- a feasible plan of a sheet (a fit plan, in docs/FORMAT.md): each step's set includes the lower set, lies within the
+-- upper set, and has in each chamber a number of units from that chamber's least to its greatest number
 abbrev pub FeasibleOn : List ℕ → List ℕ → Type 0
 FeasibleOn s plan = Throughout (Fits (chambers_in s)) (limits_on s) plan
 

@@ -1,4 +1,5 @@
--- `warm_to_edition_1` and `warm_to_edition_2`: refusals 1 to 8, 13 and 14, and 15 going down, or the sheet in that edition. `first` is true for edition 1.
+-- `warm_to_edition_1` and `warm_to_edition_2`: refusals 1 to 8, 13 and 14, and 15 going down, or the sheet in that
+-- edition. `first` is true for edition 1.
 use Rattle.std.specs.Prelude.{ℕ, Bool, true, false, List, [], ◌∷◌, ◌++◌, ltb, length}
 use Rattle.format.specs.Answer.{Answer, Given, Cause, cause, unless}
 use Rattle.format.specs.Editions.{in_edition}

@@ -1,5 +1,6 @@
--- Worked examples: what an entry replies on a sheet and leaves in the lent memory. One statement, `Holds` of every row, is proved in proofs/Examples.antt from
--- the definitions alone. specs/Writing.antt of `format` has the bytes of a sheet, and its specs/Examples.antt what the reader says of sheets with every fault.
+-- Worked examples: what an entry replies on a sheet and leaves in the lent memory. One statement, `Holds` of every
+-- row, is proved in proofs/Examples.antt from the definitions alone. specs/Writing.antt of `format` has the bytes of a
+-- sheet, and its specs/Examples.antt what the reader says of sheets with every fault.
 use Rattle.std.specs.Prelude.{ℕ, ◌≡◌, Bool, true, false, List, [], ◌∷◌, ◌++◌, set, replicate}
 use Rattle.format.specs.declared.ChamberStep.{ChamberStep}
 use Rattle.format.specs.declared.Step.{Step}
@@ -19,15 +20,18 @@ use Rattle.promises.specs.Listing.{sizes_listing}
 
 -- ---- sheets
 
--- Four runs (B1 to B4 and B10), with a bound and a start set: of three units, 0, 1, 2 and 0 must be on in the four steps, and at most two may be.
+-- Four runs (B1 to B4 and B10), with a bound and a start set: of three units, 0, 1, 2 and 0 must be on in the four
+-- steps, and at most two may be.
 abbrev pub four_runs : ℕ → ℕ → List ℕ
 four_runs bound start = sheet_of 3 bound start (step 1 7 0 2 ∷ step 2 7 0 2 ∷ step 4 7 0 2 ∷ step 1 7 0 2 ∷ [])
 
--- Two units, bound 1, and one step in which just k of them must be on: one (B6), or three, which is more than there are (B7).
+-- Two units, bound 1, and one step in which just k of them must be on: one (B6), or three, which is more than there
+-- are (B7).
 abbrev pub just_some : ℕ → List ℕ
 just_some k = sheet_of 2 1 0 (step 0 3 k k ∷ [])
 
--- Two units, of which just one must be on in the first step. Which it is depends on the start set and on what comes after.
+-- Two units, of which just one must be on in the first step. Which it is depends on the start set and on what comes
+-- after.
 abbrev pub one_of_two : ℕ → List Step → List ℕ
 one_of_two start after = sheet_of 2 2 start (step 0 3 1 1 ∷ after)
 
@@ -35,15 +39,16 @@ one_of_two start after = sheet_of 2 2 start (step 0 3 1 1 ∷ after)
 abbrev asks : ℕ → ℕ → Step
 asks lower upper = step lower upper 0 2
 
--- Four units in chambers 1 and 3, two in each, with a bound and a start set, and two steps in which just one of each chamber must be on. The chambers without a unit ask for none
--- and would allow seven.
+-- Four units in chambers 1 and 3, two in each, with a bound and a start set, and two steps in which just one of each
+-- chamber must be on. The chambers without a unit ask for none and would allow seven.
 abbrev pub one_of_each : ℕ → ℕ → List ℕ
 one_of_each bound start = chamber_header 4 2 1 bound (four 2 0 2 0) start ++ chamber_record each 2 ++ chamber_record each 0
   where
     each : ChamberStep
     each = chambered 0 15 (four 1 0 1 0) (four 1 7 1 7) 0 0
 
--- Three units, two in chamber 1 and one in chamber 3, which is full in the one step: its unit must be on. At most one of the others may be.
+-- Three units, two in chamber 1 and one in chamber 3, which is full in the one step: its unit must be on. At most one
+-- of the others may be.
 abbrev pub full_chamber : List ℕ
 full_chamber = chamber_header 3 1 1 3 (four 2 0 1 0) 0 ++ chamber_record (chambered 0 7 (four 0 0 1 0) (four 1 0 1 0) 0 0) 0
 
@@ -60,8 +65,8 @@ raised_runs bound = chamber_header 3 4 1 bound (four 3 0 0 0) 0 ++ run 1 2 ++ ru
 
 -- ---- the table
 
--- a call of an entry on a sheet, or on what a sheet is written from, and lent memory, with its reply and what the memory holds afterwards; or the sizes of a
--- sheet as text
+-- a call of an entry on a sheet, or on what a sheet is written from, and lent memory, with its reply and what the
+-- memory holds afterwards; or the sizes of a sheet as text
 pub data Example : Type 0 where
   steps : List ℕ → List ChamberStep → StepsReply → List ChamberStep → Example
   plan : List ℕ → List ℕ → Reply → List ℕ → Example
@@ -119,8 +124,9 @@ benches =
     ∷ verdict (four_runs 4 0) (1 ∷ 2 ∷ 4 ∷ 1 ∷ []) (full_reply 4 1)
     ∷ []
 
--- The refusals that no bench has: 1, 2, 3 and 6 of the reader, one from each entry, and 8 and 10. Where an output is too short and the bound too low, it is 8. And
--- the steps of a sheet with tags, a chain that goes back and a record off the chain.
+-- The refusals that no bench has: 1, 2, 3 and 6 of the reader, one from each entry, and 8 and 10. Where an output is
+-- too short and the bound too low, it is 8. And the steps of a sheet with tags, a chain that goes back and a record
+-- off the chain.
 unfoldable pub replies : List Example
 replies =
     steps [] (nine_step ∷ []) (refused_steps 1 0) (nine_step ∷ [])
@@ -137,9 +143,10 @@ replies =
     (widened (tagged 2 3 1 2 4294967295) ∷ widened (tagged 1 7 0 2 67305985) ∷ nine_step ∷ [])
     ∷ []
 
--- Which plan it is, where several have the fewest switches. Both units wanted, in one step: the higher number joins, and stays; in two steps: the
--- earlier. One wanted: that one. None wanted, both banned in one step or never: the higher number; banned in two steps or one of them never: the
--- later. A unit banned before it is needed is not wanted, nor is one that is never needed. A unit needed in this very step never leaves.
+-- Which plan it is, where several have the fewest switches. Both units wanted, in one step: the higher number joins,
+-- and stays; in two steps: the earlier. One wanted: that one. None wanted, both banned in one step or never: the
+-- higher number; banned in two steps or one of them never: the later. A unit banned before it is needed is not wanted,
+-- nor is one that is never needed. A unit needed in this very step never leaves.
 unfoldable pub choices : List Example
 choices =
     plan (one_of_two 0 (asks 3 3 ∷ [])) (9 ∷ 9 ∷ []) (full_reply 2 0) (2 ∷ 3 ∷ [])
@@ -156,9 +163,10 @@ choices =
     ∷ plan (sheet_of 3 1 6 (step 1 7 0 1 ∷ [])) (9 ∷ []) (full_reply 1 0) (1 ∷ [])
     ∷ []
 
--- Sheets written out byte by byte: two steps, of which the first has a byte of its own in each place of its numbers, into an output with one place more; and no
--- step. Then refusals 11 and 12: no unit, a unit too many, a start set with a unit from d up, a step too many, and an output that is too short, by one
--- byte or for the longest sheet. Where both apply, it is 11.
+-- Sheets written out byte by byte: two steps, of which the first has a byte of its own in each place of its numbers,
+-- into an output with one place more; and no step. Then refusals 11 and 12: no unit, a unit too many, a start set with
+-- a unit from d up, a step too many, and an output that is too short, by one byte or for the longest sheet. Where both
+-- apply, it is 11.
 unfoldable pub writings : List Example
 writings =
     write 64 515 578437695752307201 (tagged 1735880461161533969 2893323226570760737 49 50 1414746705 ∷ tagged 0 0 0 0 4294967295 ∷ []) (replicate 73 9) (full_written 72)
@@ -175,8 +183,9 @@ writings =
     ∷ write 1 0 0 [] (replicate 23 9) (refused_written 12 24) (replicate 23 9)
     ∷ []
 
--- The sizes of steps as text. Four runs with a bound that is too small: "1 1 2", "2 1 2", "3 1 2", "4 1 2". Sizes of two digits: 10 of twelve units at least, and as many as
--- there are. One size, and no unit: "1 1 1", "1 0 0". No step: no line. A step without a feasible set: "refused 7 1".
+-- The sizes of steps as text. Four runs with a bound that is too small: "1 1 2", "2 1 2", "3 1 2", "4 1 2". Sizes of
+-- two digits: 10 of twelve units at least, and as many as there are. One size, and no unit: "1 1 1", "1 0 0". No step:
+-- no line. A step without a feasible set: "refused 7 1".
 unfoldable pub sizings : List Example
 sizings =
     sizes (four_runs 2 0) (49 ∷ 32 ∷ 49 ∷ 32 ∷ 50 ∷ 10 ∷ 50 ∷ 32 ∷ 49 ∷ 32 ∷ 50 ∷ 10 ∷ 51 ∷ 32 ∷ 49 ∷ 32 ∷ 50 ∷ 10 ∷ 52 ∷ 32 ∷ 49 ∷ 32 ∷ 50 ∷ 10 ∷ [])
@@ -187,8 +196,8 @@ sizings =
     ∷ sizes (just_some 255) (114 ∷ 101 ∷ 102 ∷ 117 ∷ 115 ∷ 101 ∷ 100 ∷ 32 ∷ 55 ∷ 32 ∷ 49 ∷ 10 ∷ [])
     ∷ []
 
--- Four runs with all units on at the start, so that loading the first step makes no switch: the plan's only switch is in step 3, and with a bound of 0 plan and
--- chart are refused for that one. Without a step there is none.
+-- Four runs with all units on at the start, so that loading the first step makes no switch: the plan's only switch is
+-- in step 3, and with a bound of 0 plan and chart are refused for that one. Without a step there is none.
 unfoldable pub loadings : List Example
 loadings =
     plan (four_runs 3 7) nines (full_reply 1 0) (3 ∷ 3 ∷ 5 ∷ 5 ∷ 9 ∷ [])
@@ -222,8 +231,9 @@ chamberings =
     ∷ chart (two_chambers one_of_third not_zero) nines three_nines (refused_reply 14 2) nines three_nines
     ∷ []
 
--- Sheets in the other edition, into outputs with one place more: going up, and going down. Four runs in edition 2, whatever the bound, and a sheet without a step.
--- Sheets of the wanted edition are copied, also with units in several chambers. Then refusals: of the reader, 14 before 15, 15 before 8, and 8 for outputs that are one byte too short,
+-- Sheets in the other edition, into outputs with one place more: going up, and going down. Four runs in edition 2,
+-- whatever the bound, and a sheet without a step. Sheets of the wanted edition are copied, also with units in several
+-- chambers. Then refusals: of the reader, 14 before 15, 15 before 8, and 8 for outputs that are one byte too short,
 -- whichever way. Plan and chart of Four runs in edition 2 are those of the benches.
 unfoldable pub conversions : List Example
 conversions =

@@ -1,10 +1,10 @@
--- `list_plan`: refusals 1 to 7, 9, 13 and 14, or the plan that is handed out, as text. `list_sizes`: the refusals of the reader, or how many units may be on in each step.
-use Rattle.std.specs.Prelude.{ℕ, ◌+◌, List, [], ◌∷◌, ◌++◌, length}
+-- `list_plan`: refusals 1 to 7, 9, 13 and 14, or the plan that is handed out, as text. `list_sizes`: the refusals of
+-- the reader, or how many units may be on in each step.
+use Rattle.std.specs.Prelude.{ℕ, ◌+◌, Option, Some, None, List, [], ◌∷◌, ◌++◌, length}
 use Rattle.format.specs.Answer.{Answer, Refused, Given, Cause, unless}
 use Rattle.format.specs.Format.{units_of, bound_of, start_of, chambers_in}
 use Rattle.format.specs.Reading.{steps_of, read_causes}
 use Rattle.units.specs.declared.Sizes.{Sizes}
-use Rattle.units.specs.declared.Sizes.TheVariants.{Between, NoSet}
 use Rattle.chambers.specs.Chambers.{Chamber, ChamberLimits, sizes_in}
 use Rattle.plans.specs.Switch.{switches, total}
 use Rattle.promises.specs.Plan.{support_on, bound_causes}
@@ -95,9 +95,9 @@ list_plan s out = printed (listing s) out
 -- ---- the listing of sizes
 
 -- "1 2 5": the step, and the least and the greatest size of a feasible set there; no line where there is none
-unfoldable pub sizes_line : ℕ → Sizes → List ℕ
-sizes_line i (Between few many) = decimal i ++ field blank few ++ field blank many ++ line_end
-sizes_line i NoSet = []
+unfoldable pub sizes_line : ℕ → Option Sizes → List ℕ
+sizes_line i (Some z) = decimal i ++ field blank z.few ++ field blank z.many ++ line_end
+sizes_line i None = []
 
 -- the lines of the steps from number i on, of a bench with these chambers
 unfoldable pub sizes_lines : List Chamber → ℕ → List ChamberLimits → List ℕ

@@ -18,9 +18,9 @@ use Rattle.promises.specs.Chart.{on_words, off_words, warm_chart}
 use Rattle.promises.specs.Verdict.{warm_verdict}
 use Rattle.promises.specs.Listing.{listing, sizes_listing}
 
--- An entry on one input answers exactly: `result` is its reply with all lent memory afterwards. If the first cause of the list that holds has
--- number n and place p, then n is one of the entry's numbers and the result is `refused n p`; if none holds, the result is `given`.
--- One of the two is so.
+-- An entry on one input answers exactly: `result` is its reply with all lent memory afterwards. If the first cause of
+-- the list that holds has number n and place p, then n is one of the entry's numbers and the result is `refused n p`;
+-- if none holds, the result is `given`. One of the two is so.
 pub record Exact {R : Type 0} (causes : List Cause) (Number : ℕ → Type 0) (result : R) (refused : ℕ → ℕ → R) (given : R) : Type 0 where
   pub decided : ((n : ℕ) × ((p : ℕ) × First causes n p)) ⊎ ((n p : ℕ) → First causes n p → ⊥)
   pub numbered : (n p : ℕ) → First causes n p → Number n
@@ -35,8 +35,8 @@ Passes s = (n p : ℕ) → First (read_causes s) n p → ⊥
 abbrev pub Meets : List ℕ → List ℕ → Type 0
 Meets s plan = FeasibleOn s plan × (total (start_of s) plan ≤ bound_of s)
 
--- Demand 2 on what `warm_plan` replied and left in its output: the words in the first places are the plan that FindSupport gives, and the verdict accepts them,
--- with the total that was replied.
+-- Demand 2 on what `warm_plan` replied and left in its output: the words in the first places are the plan that
+-- FindSupport gives, and the verdict accepts them, with the total that was replied.
 pub record HandedOut (s : List ℕ) (reply : Reply) (out : List ℕ) : Type 0 where
   pub support : take (length (steps_of s)) out ≡ support_on s
   pub accepted : warm_verdict s (take (length (steps_of s)) out) ≡ full_reply reply.total 1
@@ -52,13 +52,15 @@ pub record LeastAndGreatest (cs : List Chamber) (x : ChamberLimits) (few many : 
 abbrev pub SomePlanHas : List ℕ → ℕ → ℕ → ℕ → Type 0
 SomePlanHas s i u v = (plan : List ℕ) × (Meets s plan × (bit (get_or plan i 0) u ≡ v))
 
--- FindSupport's plans of all chambers, put together, with an order for the ties of each step; `support_on` is that with the house rule at every step
+-- FindSupport's plans of all chambers, put together, with an order for the ties of each step; `support_on` is that
+-- with the house rule at every step
 abbrev pub support_by : (ℕ → ℕ → ℕ → Bool) → List ℕ → List ℕ
 support_by ties s = support_in_by ties (chambers_in s) (start_of s) (limits_on s)
 
 -- Demand 3 on one sheet and lent outputs, where `best` is the total of FindSupport's plan.
 pub record FewestAndExact (s plan on off : List ℕ) (best : ℕ) : Type 0 where
-  -- the plan that is handed out meets all set and number limits, and every plan that meets them has at least `best` switches
+  -- the plan that is handed out meets all set and number limits, and every plan that meets them has at least `best`
+  -- switches
   pub feasible : FeasibleOn s (support_on s)
   pub fewest : (other : List ℕ) → FeasibleOn s other → best ≤ total (start_of s) other
   -- plan and chart refuse the sheet for its bound if that number is above it, and the place is that number
@@ -67,18 +69,19 @@ pub record FewestAndExact (s plan on off : List ℕ) (best : ℕ) : Type 0 where
   -- else it is the total of both, and the plan written out is FindSupport's
   pub plan_within : best ≤ bound_of s → warm_plan s plan ≡ (full_reply best 0, written (support_on s) plan)
   pub chart_within : best ≤ bound_of s → warm_chart s on off ≡ (full_reply best 0, (written (on_words s) on, written (off_words s) off))
-  -- the chart has a word for each step in which it shows a unit of the sheet as able to be on, or off, exactly if some plan that meets the sheet
-  -- has it so there; and no other unit
+  -- the chart has a word for each step in which it shows a unit of the sheet as able to be on, or off, exactly if some
+  -- plan that meets the sheet has it so there; and no other unit
   pub on_length : length (on_words s) ≡ length (steps_of s)
   pub off_length : length (off_words s) ≡ length (steps_of s)
   pub on_cells : (i u : ℕ) → i < length (steps_of s) → u < units_of s → (bit (get_or (on_words s) i 0) u ≡ 1) ↔ SomePlanHas s i u 1
   pub off_cells : (i u : ℕ) → i < length (steps_of s) → u < units_of s → (bit (get_or (off_words s) i 0) u ≡ 1) ↔ SomePlanHas s i u 0
   pub no_others : (i u : ℕ) → i < length (steps_of s) → units_of s ≤ u → (bit (get_or (on_words s) i 0) u ≡ 0) × (bit (get_or (off_words s) i 0) u ≡ 0)
 
--- The count that leaves out the loading of the first step, on a sheet s, on t, which is s with all d units in its start set, and on lent outputs.
+-- The count that leaves out the loading of the first step, on a sheet s, on t, which is s with all d units in its
+-- start set, and on lent outputs.
 pub record FewestLater (s t plan on off : List ℕ) (best : ℕ) : Type 0 where
-  -- `best` is the least that is counted so: some feasible plan of s has so many switches from its second step on, and no feasible plan of s has fewer;
-  -- without a step it is 0
+  -- `best` is the least that is counted so: some feasible plan of s has so many switches from its second step on, and
+  -- no feasible plan of s has fewer; without a step it is 0
   pub some : (p : List ℕ) × (FeasibleOn s p × (later_total p ≡ best))
   pub fewest : (other : List ℕ) → FeasibleOn s other → best ≤ later_total other
   pub no_step : steps_of s ≡ [] → best ≡ 0
@@ -94,8 +97,9 @@ pub record FewestLater (s t plan on off : List ℕ) (best : ℕ) : Type 0 where
 abbrev pub one_limits : List ℕ → List Limits
 one_limits s = map without_chambers (limits_on s)
 
--- A sheet of edition 1 is the case of one chamber: all of its units are in the first, and what is said of its feasible plans, of the fewest switches, of the plan that is handed
--- out, of the chart and of sizes is said without chambers, by the definitions of `plans`.
+-- A sheet of edition 1 is the case of one chamber: all of its units are in the first, and what is said of its feasible
+-- plans, of the fewest switches, of the plan that is handed out, of the chart and of sizes is said without chambers,
+-- by the definitions of `plans`.
 pub record OneChamber (s : List ℕ) : Type 0 where
   pub chambers : sizes_list (sizes s) ≡ units_of s ∷ 0 ∷ 0 ∷ 0 ∷ []
   pub feasible : (plan : List ℕ) → FeasibleOn s plan ↔ FeasiblePlan (one_limits s) plan
@@ -117,8 +121,9 @@ pub record Converted (first : Bool) (s t : List ℕ) : Type 0 where
   pub bound : bound_of t ≡ bound_of s
   pub start : start_of t ≡ start_of s
   pub chambers : sizes_list (sizes t) ≡ sizes_list (sizes s)
-  -- there are as many records; each of them, unused ones too, names the same next one (as the header, record 0, names the first), and holds the same step but for
-  -- how its numbers are written: its sets, its tag and the numbers of the first chamber
+  -- there are as many records; each of them, unused ones too, names the same next one (as the header, record 0, names
+  -- the first), and holds the same step but for how its numbers are written: its sets, its tag and the numbers of the
+  -- first chamber
   pub records : records_of t ≡ records_of s
   pub links : (j : ℕ) → j ≤ records_of s → next_of t j ≡ next_of s j
   pub held : (j : ℕ) → 0 < j → j ≤ records_of s → narrowed (step_of t j) ≡ narrowed (step_of s j)

@@ -1,46 +1,37 @@
--- Laws on the loop that fills words with what the steps of the chain ask of a chamber. `Filling`: what the turns to come make of the words is what all turns make of them as
--- they were.
-use mathlib.Core.Path.{◌≡◌, refl, sym, ap, ap₂, ◌∙◌}
-use mathlib.Core.List.{List, [], ◌∷◌, map}
-use Prim.Native.Nat.{ℕ, suc, ◌+◌, ◌*◌, ◌-◌, ◌≤◌, ◌<◌}
-use native.Mathlib.Omega.{arith}
-use lib.ListN.{length}
-use lib.Seq.{sets, length-sets}
-use Rattle.plans.specs.Rows.{rows_of}
+-- Laws on the loop that fills places with what the steps of a sheet ask of a chamber. `Filling`: what the turns to
+-- come make of the places is what all turns make of them as they were.
+use Rattle.std.proofs.Common.{◌≡◌, ℕ, ◌+◌, List, [], ◌∷◌, map, length, set, sym, ap, ◌∙◌, add-one, length-set, arith}
+use Rattle.std.proofs.lemmas.List.Edits.{sets}
 use Rattle.plans.specs.Switch.{sized}
-use Rattle.chambers.specs.Chambers.{Chamber, parts_of}
+use Rattle.plans.specs.declared.Limits.{Limits}
+use Rattle.chambers.specs.Chambers.{Chamber, part_of, parts_of}
 use Rattle.format.specs.declared.ChamberStep.{ChamberStep}
-use Rattle.format.specs.Chain.{steps_from}
-use Rattle.format.specs.Format.{limits_of, next_of, step_of}
-use Rattle.sheet.proofs.Along.{steps_next, steps_none}
+use Rattle.format.specs.Format.{limits_of}
 
--- the words of some steps, in a chamber
-abbrev words : Chamber → List ChamberStep → List ℕ
-words c xs = rows_of (map sized (parts_of c (map limits_of xs)))
+-- what some steps ask of a chamber
+abbrev pub asked : Chamber → List ChamberStep → List Limits
+asked c xs = map sized (parts_of c (map limits_of xs))
 
-pub record Filling (s : List ℕ) (c : Chamber) (n : ℕ) (before now : List ℕ) (at i : ℕ) : Type 0 where
+pub record Filling (c : Chamber) (n : ℕ) (all left : List ChamberStep) (before now : List Limits) (count : ℕ) : Type 0 where
+  pub many : count + length left ≡ n
   pub same_long : length now ≡ length before
-  pub ends : sets now (4 * i) (words c (steps_from s at (n - i))) ≡ sets before 0 (words c (steps_from s 0 n))
+  pub ends : sets now count (asked c left) ≡ sets before 0 (asked c all)
 
-pub fill_begun : (s : List ℕ) (c : Chamber) (n : ℕ) (before : List ℕ) → Filling s c n before before 0 0
-fill_begun s c n before =
-    let none : n - 0 ≡ n = omega arith in
-    record { same_long = refl; ends = ap (λ (k : ℕ). sets before 0 (words c (steps_from s 0 k))) none }
-
-module _ {s : List ℕ} {c : Chamber} {n : ℕ} {before now : List ℕ} {at i : ℕ} (g : Filling s c n before now at i) where
-  pub fill_on : i < n → (after : List ℕ) → after ≡ sets now (4 * i) (words c (step_of s (next_of s at) ∷ []))
-      → Filling s c n before after (next_of s at) (i + 1)
-  unfolding rows_of
-  fill_on h after is =
-      let next : 4 * (i + 1) ≡ suc (suc (suc (suc (4 * i)))) = omega arith in
+module _ {c : Chamber} {n : ℕ} {all left : List ChamberStep} {before now : List Limits} {count : ℕ}
+    (g : Filling c n all left before now count) where
+  -- the next step is put
+  pub fill_on : {x : ChamberStep} {rest : List ChamberStep} → left ≡ x ∷ rest → {y : Limits} → y ≡ sized (part_of c (limits_of x))
+      → {i k : ℕ} → i ≡ count → k ≡ count + 1 → Filling c n all rest before (set now i y) k
+  fill_on {x} {rest} e {y} is {i} {k} here next =
       record {
-        same_long = ap length is ∙ length-sets now (4 * i) (words c (step_of s (next_of s at) ∷ [])) ∙ g.same_long;
+        many = omega (arith, g.many, ap length e, next);
+        same_long = length-set now i y ∙ g.same_long;
         ends =
-            ap₂ (λ l (k : ℕ). sets l k (words c (steps_from s (next_of s at) (n - (i + 1))))) is next
-            ∙ ap (λ xs. sets now (4 * i) (words c xs)) (sym (steps_next s n at i h))
+            (λ j. sets (set now (here j) (is j)) ((next ∙ add-one count) j) (asked c rest))
+            ∙ ap (λ xs. sets now count (asked c xs)) (sym e)
             ∙ g.ends;
       }
 
-  pub fill_done : n ≤ i → now ≡ sets before 0 (words c (steps_from s 0 n))
-  unfolding rows_of
-  fill_done h = ap (λ xs. sets now (4 * i) (words c xs)) (sym (steps_none s n at i h)) ∙ g.ends
+  -- all are
+  pub fill_done : left ≡ [] → now ≡ sets before 0 (asked c all)
+  fill_done e = ap (λ xs. sets now count (asked c xs)) (sym e) ∙ g.ends

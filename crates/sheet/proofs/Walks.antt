@@ -1,5 +1,5 @@
--- Laws on the walk along the chain. `Walked s r w`: the walk's state w stands where the records `on` have been met, and the links still to be looked at
--- decide as all links do.
+-- Laws on the walk along the chain. `Walked s r w`: the walk's state w stands where the records `on` have been met,
+-- and the links still to be looked at decide as all links do.
 use mathlib.Core.Path.{◌≡◌, refl, sym, ap, ◌∙◌, subst}
 use mathlib.Core.Bool.{true, false}
 use mathlib.Core.List.{List, [], ◌∷◌, ◌++◌}

@@ -1,13 +1,12 @@
--- What keeps the sizes of a step simple: a limit on them, so that sums of them do not run over, and that one chamber alone is asked.
-use Rattle.std.specs.Prelude.{ℕ, ◌≤◌, ◌≡◌, List, get_or}
+-- What keeps the sizes of a step simple: a limit on them, so that sums of them do not run over, and that one chamber
+-- alone is asked.
+use Rattle.std.specs.Prelude.{ℕ, ◌≤◌, ◌≡◌, Option, IfSome, List, get_or}
 use Rattle.units.specs.declared.Sizes.{Sizes}
-use Rattle.units.specs.declared.Sizes.TheVariants.{Between, NoSet}
 use Rattle.format.specs.declared.ChamberStep.{ChamberStep}
 
 -- no size is above k
-abbrev pub AtMost : ℕ → Sizes → Type 0
-AtMost k (Between few many) = (few ≤ k) × (many ≤ k)
-AtMost k NoSet = Unit {0}
+abbrev pub AtMost : ℕ → Option Sizes → Type 0
+AtMost k sizes = IfSome sizes (λ z. (z.few ≤ k) × (z.many ≤ k))
 
 -- of chambers of these units, chamber number c is empty, and the step asks for none of it
 abbrev pub Unasked : List ℕ → ChamberStep → ℕ → Type 0

@@ -1,89 +1,73 @@
-// The steps of a sheet that passes the reader, as words for the planner, in one chamber at a time: four a step, the chamber's part of its lower and upper set and the
-// least and the greatest size of a feasible set of that part, which stand for its two numbers.
-ghost use Rattle.std.specs.Prelude.{◌≡◌, [], ◌∷◌, map, ◌+◌, ◌*◌, ◌≤◌, ◌<◌, length};
+// The steps of a sheet that passes the reader, as the planner takes them, in one chamber at a time: the chamber's part
+// of a step's lower and upper set, and the least and the greatest size of a feasible set of that part, which stand for
+// its two numbers.
+ghost use Rattle.std.specs.Prelude.{◌≡◌, map, ◌≤◌, length};
 ghost use Rattle.std.proofs.lemmas.List.Edits.{sets};
-ghost use Rattle.chambers.specs.Chambers.{chamber, part_of, parts_of};
-ghost use Rattle.plans.specs.Rows.{row_size, rows_of};
+ghost use Rattle.chambers.specs.Chambers.{part_of, parts_of};
 ghost use Rattle.plans.specs.Switch.{sized};
 ghost use Rattle.format.specs.Chain.{Inside, steps_from};
-ghost use Rattle.format.specs.Format.{chamber_count, is_first, limits_of};
+ghost use Rattle.format.specs.Format.{limits_of};
+ghost use Rattle.format.specs.Reading.{steps_of};
 
-use super::parts::part_sizes;
-use super::record::{follow, is_first, step_at};
+use super::Sheet;
+use super::iter::Steps;
+use super::parts::{Chamber, part_sizes};
+use super::record::Records;
 use format::ChamberStep;
 use plans::Limits;
-use units::{Sizes, intersection};
+use units::intersection;
 
-// What the planner is given of a step in chamber number c, which has these units: its part of the step, with the sizes of its feasible sets in the place of its two
-// numbers.
-fn sized_part(x: ChamberStep, c: usize, units: u64) -> Limits
-    requires { c < chamber_count }
-    ensures { result ≡ sized (part_of (chamber c units) (limits_of x)) }
+// What the planner is given of a step in a chamber: the chamber's part of the step, with the sizes of its feasible
+// sets in the place of its two numbers.
+fn sized_part(x: ChamberStep, chamber: Chamber) -> Limits
+    ensures { result ≡ sized (part_of chamber (limits_of x)) }
 {
-    let least = x.least;
-    let greatest = x.greatest;
-    let lower = intersection(x.lower, units);
-    let upper = intersection(x.upper, units);
-    match part_sizes(x, c, units) {
-        Sizes::Between(few, many) => Limits {
-            lower,
-            upper,
-            least: few as u64,
-            greatest: many as u64,
-        },
-        Sizes::NoSet => Limits {
-            lower,
-            upper,
-            least: least[c] as u64,
-            greatest: greatest[c] as u64,
-        },
+    let Chamber { number, units } = chamber;
+    let (least, greatest) = match part_sizes(x, chamber) {
+        Some(sizes) => (u64::from(sizes.few), u64::from(sizes.many)),
+        None => (u64::from(x.least[number]), u64::from(x.greatest[number])),
+    };
+    Limits {
+        lower: intersection(x.lower, units),
+        upper: intersection(x.upper, units),
+        least,
+        greatest,
     }
 }
 
-// Writes the words of a step from place `at` on.
-fn put_row(x: Limits, rows: &mut [u64], at: usize)
-    requires { at + row_size ≤ length rows.old }
-    ensures { rows.new ≡ sets rows.old at (rows_of (x ∷ [])) }
+// Fills the first n places with what the first n steps of the chain ask of a chamber, and leaves the places after
+// them.
+fn decode_by(records: Records<'_>, n: usize, chamber: Chamber, steps: &mut [Limits])
+    requires inside { Inside records.bytes.now 0 n }
+    requires room { n ≤ length steps.old }
+    ensures { steps.new ≡
+        sets steps.old 0 (map sized (parts_of chamber (map limits_of (steps_from records.entry.bytes.now 0 n)))) }
 {
-    rows[at] = x.lower;
-    rows[at + 1] = x.upper;
-    rows[at + 2] = x.least;
-    rows[at + 3] = x.greatest;
-}
-
-// Fills the first places with the words of what the first n steps of the chain ask of chamber number c, which has these units, and leaves the places after them.
-fn decode_by(s: &[u8], first: bool, n: usize, c: usize, units: u64, rows: &mut [u64])
-    requires first_value { first ≡ is_first s.now }
-    requires inside { Inside s.now 0 n }
-    requires c_lt_chamber_count { c < chamber_count }
-    requires n_in_bounds { row_size * n ≤ length rows.old }
-    ensures { rows.new ≡
-        sets rows.old 0 (rows_of (map sized (parts_of (chamber c units) (map limits_of (steps_from s.now 0 n))))) }
-{
-    let mut at = 0;
-    let mut i = 0;
-    while i < n {
-        at = follow(s, first, at);
-        put_row(
-            sized_part(step_at(s, first, at), c, units),
-            rows,
-            Limits::WORDS * i,
-        );
-        i += 1;
+    for (i, step) in Steps::of(records, n).enumerate() {
+        steps[i] = sized_part(step, chamber);
     }
 }
 
-// The same, where each edition has its own code.
-pub fn decode(s: &[u8], n: usize, c: usize, units: u64, rows: &mut [u64])
-    requires inside { Inside s.now 0 n }
-    requires c_lt_chamber_count { c < chamber_count }
-    requires n_in_bounds { row_size * n ≤ length rows.old }
-    ensures { rows.new ≡
-        sets rows.old 0 (rows_of (map sized (parts_of (chamber c units) (map limits_of (steps_from s.now 0 n))))) }
+// The same, where each edition has its own code, which is faster.
+pub fn decode_first(bytes: &[u8], n: usize, chamber: Chamber, steps: &mut [Limits])
+    requires inside { Inside bytes.now 0 n }
+    requires room { n ≤ length steps.old }
+    ensures { steps.new ≡
+        sets steps.old 0 (map sized (parts_of chamber (map limits_of (steps_from bytes.now 0 n)))) }
 {
-    if is_first(s) {
-        decode_by(s, true, n, c, units, rows);
+    let records = Records::of(bytes);
+    if records.first {
+        decode_by(records.of_edition(true), n, chamber, steps);
     } else {
-        decode_by(s, false, n, c, units, rows);
+        decode_by(records.of_edition(false), n, chamber, steps);
     }
+}
+
+// The same for all steps of a sheet.
+pub fn decode(sheet: Sheet, chamber: Chamber, steps: &mut [Limits])
+    requires room { sheet.summary.steps ≤ length steps.old }
+    ensures { steps.new ≡
+        sets steps.old 0 (map sized (parts_of chamber (map limits_of (steps_of sheet.entry.bytes.now)))) }
+{
+    decode_first(sheet.bytes, sheet.summary.steps as usize, chamber, steps);
 }

@@ -1,13 +1,15 @@
-// The reader of campaign sheets, which gives for any bytes either one refusal or what the sheet says, and the decoder of a sheet that was read.
-// specs/Reading.antt of `format` is the definition that the reader is proved to equal.
+// The reader of campaign sheets, which gives for any bytes either one refusal or what the sheet says, and the decoder
+// of a sheet that was read. specs/Reading.antt of `format` is the definition that the reader is proved to equal.
 //
-// The modules follow the data: numbers out of bytes, the header, the chain of records, one record as a step, what it asks of the chambers, the open sheet, which lends
-// the bytes to those, and the steps as words for the planner. Nothing here is an open entry of the library.
+// The modules follow the data: numbers out of bytes, the header, the chain of records, one record as a step, what it
+// asks of the chambers, the search for a faulty step, the reader, and the steps for the planner. Nothing here is an
+// open entry of the library.
 #![tactic(auto)]
 
 pub mod chain;
 pub mod decode;
 pub mod head;
+pub mod iter;
 pub mod numbers;
 pub mod open;
 pub mod parts;
@@ -15,24 +17,20 @@ pub mod record;
 pub mod steps;
 
 ghost use Rattle.std.specs.Prelude.{◌≡◌};
-ghost use Rattle.sheet.specs.Walking.{at_header};
+ghost use Rattle.format.specs.Answer.{Given};
+ghost use Rattle.format.specs.Reading.{steps_of};
+ghost use Rattle.format.specs.Stages.{summary_read};
 
-use chain::Walk;
-use format::{Header, Refusal, Summary};
-use plans::Limits;
+use format::Summary;
+use iter::Steps;
+use record::Records;
 
-// What the reader answers: a refusal, or what the sheet says.
-#[derive(Drop)]
-pub enum ReadAnswer {
-    Refused(Refusal),
-    Read(Summary),
-}
-
-// An open sheet: the lent bytes, and the numbers of their header.
-#[derive(Drop)]
+// A sheet that passed the reader: the lent bytes, and what they say but for the steps.
+#[derive(Clone, Copy)]
 pub struct Sheet<'a> {
     pub bytes: &'a [u8],
-    pub header: Header,
+    pub summary: Summary,
+    ghost passed: { summary_read bytes.now ≡ Given summary },
 }
 
 impl<'a> Sheet<'a> {
@@ -40,9 +38,9 @@ impl<'a> Sheet<'a> {
     pub const LETTERS: [u8; 4] = *b"WARM";
 
     // The editions of the format.
-    pub const FIRST_EDITION: u64 = 1;
+    pub const FIRST_EDITION: u8 = 1;
 
-    pub const SECOND_EDITION: u64 = 2;
+    pub const SECOND_EDITION: u8 = 2;
     // Bytes of the header, and of a record of the first edition and of the second.
     pub const HEADER_SIZE: usize = 24;
 
@@ -50,7 +48,7 @@ impl<'a> Sheet<'a> {
 
     pub const CHAMBER_RECORD_SIZE: usize = 32;
     // The most units and the most records, and how many chambers there are.
-    pub const UNIT_LIMIT: u64 = 64;
+    pub const UNIT_LIMIT: u8 = 64;
 
     pub const RECORD_LIMIT: usize = 256;
 
@@ -90,17 +88,11 @@ impl<'a> Sheet<'a> {
     // Bytes of the longest sheet, which is one of the second edition.
     pub const LONGEST: usize = Sheet::HEADER_SIZE
         + Sheet::CHAMBER_RECORD_SIZE * Sheet::RECORD_LIMIT;
-    // Words of the steps of such a sheet, once they are decoded.
-    pub const STEP_WORDS: usize = Limits::WORDS * Sheet::RECORD_LIMIT;
 
-    // The walk along the chain, before its first link: at the header, with no record met.
-    pub fn open_walk() -> Walk
-        ensures { result ≡ at_header }
+    // Its steps, one after the other.
+    pub fn steps(self) -> Steps<'a>
+        ensures { result ≡ steps_of self.entry.bytes.now }
     {
-        Walk {
-            marks: [0; 4],
-            at: 0,
-            steps: 0,
-        }
+        Steps::of(Records::of(self.bytes), self.summary.steps as usize)
     }
 }

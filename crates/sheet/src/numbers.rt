@@ -1,41 +1,34 @@
-// Numbers out of bytes: little-endian, at any place where they lie whole within the slice.
-ghost use Rattle.std.specs.Prelude.{◌≡◌, ◌+◌, ◌<◌, ◌≤◌, ◌^◌, length};
-ghost use Rattle.format.specs.Numbers.{byte_at, u16_at, u32_at, u64_at};
+// Numbers out of bytes: little-endian, at any place where they lie whole within the slice. There is a function for
+// each width, since `from_le_bytes` is a method of each type and of no trait; the place stands beside the slice, as in
+// the definitions, which speak of places in the whole sheet.
+ghost use Rattle.std.specs.Prelude.{◌≡◌, ◌+◌, ◌≤◌, length, take, drop};
+ghost use Rattle.format.specs.Numbers.{u16_at, u32_at, u64_at};
 
-fn wide(x: u8) -> u64
-    ensures value { result ≡ x }
-    ensures upper_bound { result < 256 }
+// The N bytes from a place on.
+fn bytes_at<const N: usize>(s: &[u8], at: usize) -> [u8; N]
+    requires { at + N ≤ length s.now }
+    ensures { result ≡ take N (drop at s.now) }
 {
-    x as u64
+    s[at..at + N].try_into().unwrap()
 }
 
-pub fn byte_at(s: &[u8], at: usize) -> u64
-    requires { at < length s.now }
-    ensures value { result ≡ byte_at s.now at }
-    ensures upper_bound { result < 256 }
-{
-    wide(s[at])
-}
-
-pub fn u16_at(s: &[u8], at: usize) -> u64
+pub fn u16_at(s: &[u8], at: usize) -> u16
     requires { at + 2 ≤ length s.now }
-    ensures value { result ≡ u16_at s.now at }
-    ensures upper_bound { result < 65536 }
+    ensures { result ≡ u16_at s.now at }
 {
-    byte_at(s, at) + 256 * byte_at(s, at + 1)
+    u16::from_le_bytes(bytes_at(s, at))
 }
 
-pub fn u32_at(s: &[u8], at: usize) -> u64
+pub fn u32_at(s: &[u8], at: usize) -> u32
     requires { at + 4 ≤ length s.now }
-    ensures value { result ≡ u32_at s.now at }
-    ensures upper_bound { result < 2 ^ 32 }
+    ensures { result ≡ u32_at s.now at }
 {
-    u16_at(s, at) + 65536 * u16_at(s, at + 2)
+    u32::from_le_bytes(bytes_at(s, at))
 }
 
 pub fn u64_at(s: &[u8], at: usize) -> u64
     requires { at + 8 ≤ length s.now }
     ensures { result ≡ u64_at s.now at }
 {
-    u32_at(s, at) + 4294967296 * u32_at(s, at + 4)
+    u64::from_le_bytes(bytes_at(s, at))
 }

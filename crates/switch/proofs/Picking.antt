@@ -1,9 +1,10 @@
 -- How a look at one step finds the first units of a set in a ranking.
 --
--- At a step the units fall into three groups: those required now, those that the step leaves open, and those forbidden now. The first group ranks before
--- the second and that before the third; within the first and the third the tie order decides, and the second is ranked as from the next step on.
--- So the first k units are taken from the groups in turn (`taken_front`, `taken_past`). The last k are found in the same way from the other end.
-use mathlib.Core.Path.{◌≡◌, refl, sym, ap, ◌∙◌, subst, subst₃}
+-- At a step the units fall into three groups: those required now, those that the step leaves open, and those forbidden
+-- now. The first group ranks before the second and that before the third; within the first and the third the tie order
+-- decides, and the second is ranked as from the next step on. So the first k units are taken from the groups in turn
+-- (`taken_front`, `taken_past`). The last k are found in the same way from the other end.
+use mathlib.Core.Path.{◌≡◌, refl, sym, ap, ap₂, ◌∙◌, subst, subst₃}
 use mathlib.Core.Logic.{◌⊎◌, inl, inr}
 use mathlib.Core.Bool.{Bool, true, false, not}
 use mathlib.Core.List.{List, [], ◌∷◌}
@@ -14,8 +15,10 @@ use Rattle.units.specs.Sets.{bit, union, intersection, difference, Subset, remov
 use Rattle.units.proofs.Sets.{bit_le, bit_cases, bit_union, bit_intersection, bit_difference, set_ext, union_assoc, union_empty_right, difference_empty, difference_insert, difference_twice, size_mono, size_none, size_remove, size_difference, size_union}
 use Rattle.switch.specs.Groups.{undecided, required, forbidden, group}
 use Rattle.switch.specs.Toward.{toward}
-use Rattle.plans.specs.Rows.{limits}
+use Rattle.plans.specs.Steps.{limits}
 use Rattle.switch.specs.Looked.{Looked}
+use Rattle.switch.specs.declared.pick.Pick.{Pick}
+use Rattle.switch.specs.declared.stretch.Stretch.{Stretch}
 use Rattle.plans.specs.Support.{tie_order, ranks_before, members, first_in, taken}
 use Rattle.plans.specs.declared.Limits.{Limits}
 use Rattle.plans.proofs.Chosen.{Chosen, first_of_set, taken_chosen, chosen_unique}
@@ -244,9 +247,6 @@ pub record Cleared (before : ℕ → ℕ → Bool) (c k rest left : ℕ) : Type 
   pub enough : left ≤ size rest
   pub leaves : difference rest (taken before left rest) ≡ difference c (taken before k c)
 
-pub clear_begun : (before : ℕ → ℕ → Bool) (c k : ℕ) → k ≤ size c → Cleared before c k c k
-clear_begun before c k h = record { enough = h; leaves = refl }
-
 pub clear_on : {before : ℕ → ℕ → Bool} → Ordered before → (c k rest left : ℕ) → 0 < left → Cleared before c k rest left
     → Cleared before c k (remove rest (first_in before (members rest))) (left - 1)
 unfolding taken
@@ -293,32 +293,38 @@ taken_others last k c h =
 
 -- ---- a look at one step
 
-module _ (last : Bool) (lower upper rest left : ℕ) (m : left ≤ size rest) where
-  nothing_left : (before : ℕ → ℕ → Bool) (found : ℕ) → union found (taken before 0 0) ≡ found
-  unfolding taken
-  nothing_left before found = union_empty_right found
+-- What a look finds of the first units: with those that go first in what is left, by the ranking from the next step
+-- on, it is all of them.
+pub record Finds (last : Bool) (lower upper rest left found others more : ℕ) : Type 0 where
+  pub same : (m g n i : ℕ) (ss : List Limits) → i + length ss ≡ n
+      → union found (taken (toward last (ranks_before n (i + 1) ss)) more others)
+      ≡ taken (toward last (ranks_before n i (limits lower upper m g ∷ ss))) left rest
 
-  pub looked_first : left ≤ size (group last lower upper rest)
-      → Looked last lower upper rest left (record { found = taken (toward last tie_order) left (group last lower upper rest); rest = 0; left = 0 })
-  looked_first l =
+module _ (last : Bool) (lower upper rest left : ℕ) (m : left ≤ size rest) where
+  nothing_left : (before : ℕ → ℕ → Bool) (found others : ℕ) → union found (taken before 0 others) ≡ found
+  unfolding taken
+  nothing_left before found others = union_empty_right found
+
+  pub finds_first : left ≤ size (group last lower upper rest) → (others : ℕ)
+      → Finds last lower upper rest left (taken (toward last tie_order) left (group last lower upper rest)) others 0
+  finds_first l others =
       record {
-        enough = omega arith;
-        same = λ k g n i ss h. nothing_left (toward last (ranks_before n (i + 1) ss)) _ ∙ sym (taken_first n i (limits lower upper k g) ss (omega arith) rest last left l);
+        same = λ k g n i ss h.
+            nothing_left (toward last (ranks_before n (i + 1) ss)) _ others
+            ∙ sym (taken_first n i (limits lower upper k g) ss (omega arith) rest last left l);
       }
 
   module _ (l : size (group last lower upper rest) ≤ left) where
-    pub looked_far : left - size (group last lower upper rest) ≤ size (undecided lower upper rest)
-        → Looked last lower upper rest left (record { found = group last lower upper rest; rest = undecided lower upper rest; left = left - size (group last lower upper rest) })
-    looked_far p = record { enough = p; same = λ k g n i ss h. sym (taken_far n i (limits lower upper k g) ss (omega arith) rest last left l m p) }
+    pub finds_far : left - size (group last lower upper rest) ≤ size (undecided lower upper rest)
+        → Finds last lower upper rest left (group last lower upper rest) (undecided lower upper rest) (left - size (group last lower upper rest))
+    finds_far p = record { same = λ k g n i ss h. sym (taken_far n i (limits lower upper k g) ss (omega arith) rest last left l m p) }
 
-    pub looked_end : size (undecided lower upper rest) ≤ left - size (group last lower upper rest)
-        → Looked last lower upper rest left (record { found = union (union (group last lower upper rest) (undecided lower upper rest)) (taken (toward last tie_order) (left - size (group last lower upper rest) - size (undecided lower upper rest)) (group (not last) lower upper rest)); rest = 0; left = 0 })
-    looked_end p =
+    pub finds_end : size (undecided lower upper rest) ≤ left - size (group last lower upper rest) → (others : ℕ)
+        → Finds last lower upper rest left (union (group last lower upper rest) (union (undecided lower upper rest) (taken (toward last tie_order) (left - size (group last lower upper rest) - size (undecided lower upper rest)) (group (not last) lower upper rest)))) others 0
+    finds_end p others =
         record {
-          enough = omega arith;
           same = λ k g n i ss h.
-              nothing_left (toward last (ranks_before n (i + 1) ss)) _
-              ∙ union_assoc (group last lower upper rest) (undecided lower upper rest) _
+              nothing_left (toward last (ranks_before n (i + 1) ss)) _ others
               ∙ sym (taken_end n i (limits lower upper k g) ss (omega arith) rest last left l m p);
         }
 
@@ -329,9 +335,27 @@ module _ (last : Bool) (lower upper rest left : ℕ) (m : left ≤ size rest) wh
         omega (arith, end_room 1 1 (limits lower upper 0 0) [] refl rest last left l m p)
 
   -- where all are undecided, nothing is decided
-  pub looked_none : undecided lower upper rest ≡ rest → Looked last lower upper rest left (record { found = 0; rest = rest; left = left })
-  looked_none e =
+  pub finds_none : undecided lower upper rest ≡ rest → Finds last lower upper rest left 0 rest left
+  finds_none e =
       let empty = size_none (group last lower upper rest) (group_none last lower upper rest e) in
-      subst₃ (λ (x y z : ℕ). Looked last lower upper rest left (record { found = x; rest = y; left = z })) empty e
+      subst₃ (λ (x y z : ℕ). Finds last lower upper rest left x y z) empty e
       (omega (arith, group_none last lower upper rest e))
-      (looked_far (omega (arith, group_none last lower upper rest e)) (omega (arith, group_none last lower upper rest e, ap size e)))
+      (finds_far (omega (arith, group_none last lower upper rest e)) (omega (arith, group_none last lower upper rest e, ap size e)))
+
+-- what was found before, and by the look, is found
+pub looked : (s : Stretch) (before after : Pick) (found : ℕ) → after.last ≡ before.last → after.found ≡ union before.found found
+    → Finds before.last s.lower s.upper before.rest before.left found after.rest after.left → Looked s before after
+looked s before after found e f finds =
+    record {
+      same = λ m g n i ss h.
+          ap₂ (λ (b : Bool) (x : ℕ). union x (taken (toward b (ranks_before n (i + 1) ss)) after.left after.rest)) e f
+          ∙ union_assoc before.found found _
+          ∙ ap (union before.found) (finds.same m g n i ss h);
+    }
+
+-- and where it ends
+pub looked_ended : (s : Stretch) (before after : Pick) (found : ℕ) → after.last ≡ before.last → after.found ≡ union before.found found → after.left ≡ 0
+    → Finds before.last s.lower s.upper before.rest before.left found after.rest 0 → Looked s before after
+looked_ended s before after found e f none finds =
+    looked s before after found e f
+    (subst (λ (m : ℕ). Finds before.last s.lower s.upper before.rest before.left found after.rest m) (sym none) finds)

@@ -1,8 +1,9 @@
--- Steps on end taken as one: where the units that go first are the whole first group of all these steps and, beyond it, only undecided units, one look finds
--- them (`stretch_taken`).
+-- Steps on end taken as one: where the units that go first are the whole first group of all these steps and, beyond
+-- it, only undecided units, one look finds them (`stretch_taken`).
 --
--- By induction on the steps. The first step's groups are parts of those of all, so it can be passed too: its first group is taken, its last is left, and the
--- others are chosen among the units that it leaves undecided, where the same holds for the steps after it.
+-- By induction on the steps. The first step's groups are parts of those of all, so it can be passed too: its first
+-- group is taken, its last is left, and the others are chosen among the units that it leaves undecided, where the same
+-- holds for the steps after it.
 use mathlib.Core.Path.{◌≡◌, refl, sym, ap, ◌∙◌}
 use mathlib.Core.Bool.{Bool, true, false, ◌&&◌, and-eq-true_iff}
 use mathlib.Core.List.{List, [], ◌∷◌, ◌++◌}
@@ -53,8 +54,8 @@ tried f e r l p m q a b c d h =
     (both_hold (λ p. both (λ m. both (f r l p m)))
     (both_hold (λ l. both (λ p. both (λ m. both (f r l p m)))) (both_hold (λ r. both (λ l. both (λ p. both (λ m. both (f r l p m))))) e r a) l b) p c) m d) q h
 
--- The groups of the step and then those of the steps after it are the groups of all together. Here l and p are the sets of the step, m and q those
--- of the steps after it.
+-- The groups of the step and then those of the steps after it are the groups of all together. Here l and p are the
+-- sets of the step, m and q those of the steps after it.
 module _ (l p m q rest : ℕ) where
   abbrev later : ℕ
   later = undecided l p rest

@@ -1,6 +1,7 @@
--- The groups into which two sets, those of a step or of some steps taken as one, part the units of `rest`: those required, those forbidden and those
--- undecided. In the ranking they go in the order required, undecided, forbidden; towards its last units it is the other way round. A unit of the lower set that the
--- upper set lacks counts as forbidden: of steps taken as one, some step forbids it before one requires it.
+-- The groups into which two sets, those of a step or of some steps taken as one, part the units of `rest`: those
+-- required, those forbidden and those undecided. In the ranking they go in the order required, undecided, forbidden;
+-- towards its last units it is the other way round. A unit of the lower set that the upper set lacks counts as
+-- forbidden: of steps taken as one, some step forbids it before one requires it.
 use Rattle.std.specs.Prelude.{ℕ, ◌-◌, Bool, cond, ◌&&◌, leb}
 use Rattle.units.specs.Sets.{intersection, difference, size}
 
@@ -20,6 +21,7 @@ forbidden upper rest = difference rest upper
 abbrev pub group : Bool → ℕ → ℕ → ℕ → ℕ
 group forbids lower upper rest = cond forbids (forbidden upper rest) (required lower upper rest)
 
--- the test that the first `left` units, or the last, are the whole group that goes first and, beyond it, only undecided units
+-- the test that the first `left` units, or the last, are the whole group that goes first and, beyond it, only
+-- undecided units
 abbrev pub can_pass : Bool → ℕ → ℕ → ℕ → ℕ → Bool
 can_pass last lower upper rest left = leb (size (group last lower upper rest)) left && leb (left - size (group last lower upper rest)) (size (undecided lower upper rest))

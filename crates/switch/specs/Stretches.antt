@@ -1,8 +1,9 @@
--- Steps on end taken as one: what they require and forbid together, and where that is kept for each sixteen of them.
+-- Steps on end taken as one: what they require and forbid together, and that of each sixteen of them.
 use Rattle.std.specs.Prelude.{ℕ, ◌+◌, ◌-◌, ◌*◌, ◌/◌, ◌<◌, min, ◌≡◌, List, [], ◌∷◌, length, get_or, take, drop}
 use Rattle.units.specs.Sets.{all, union, intersection}
-use Rattle.plans.specs.Rows.{step_limit}
+use Rattle.plans.specs.Steps.{step_limit}
 use Rattle.plans.specs.declared.Limits.{Limits}
+use Rattle.switch.specs.declared.stretch.Stretch.{Stretch}
 
 -- the units that some of the steps requires
 unfoldable pub required_in : List Limits → ℕ
@@ -13,6 +14,10 @@ required_in (s ∷ ss) = union s.lower (required_in ss)
 unfoldable pub allowed_in : List Limits → ℕ
 allowed_in [] = all
 allowed_in (s ∷ ss) = intersection s.upper (union s.lower (allowed_in ss))
+
+-- both
+abbrev pub as_one : List Limits → Stretch
+as_one ss = record { lower = required_in ss; upper = allowed_in ss }
 
 -- the steps from the one at `from` to the one before `to`
 abbrev pub between : List Limits → ℕ → ℕ → List Limits
@@ -30,15 +35,11 @@ block_end n j = min (j + block_size) n
 abbrev pub block : List Limits → ℕ → List Limits
 block ss q = between ss (block_size * q) (block_end (length ss) (block_size * q))
 
--- the words of a block, and those of all blocks
-abbrev pub block_words : ℕ
-block_words = 2
+-- the most blocks
+abbrev pub block_count : ℕ
+block_count = step_limit / block_size
 
-abbrev pub all_words : ℕ
-all_words = block_words * (step_limit / block_size)
-
--- the words of each block: what its steps require, and what they allow
-pub record Blocks (ss : List Limits) (words : List ℕ) : Type 0 where
-  pub room : length words ≡ all_words
-  pub lowers : (q : ℕ) → block_size * q < length ss → get_or words (block_words * q) 0 ≡ required_in (block ss q)
-  pub uppers : (q : ℕ) → block_size * q < length ss → get_or words (block_words * q + 1) 0 ≡ allowed_in (block ss q)
+-- what each block requires, and what it allows
+pub record Blocks (ss : List Limits) (blocks : List Stretch) : Type 0 where
+  pub lowers : (q : ℕ) → block_size * q < length ss → (get_or blocks q (record { lower = 0; upper = 0 })).lower ≡ required_in (block ss q)
+  pub uppers : (q : ℕ) → block_size * q < length ss → (get_or blocks q (record { lower = 0; upper = 0 })).upper ≡ allowed_in (block ss q)

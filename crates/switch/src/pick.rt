@@ -1,19 +1,14 @@
-// The first units of a set, by the tie order or by rank. By rank, a scan looks at the steps ahead, at a block of sixteen at once where it can.
-ghost use Rattle.std.specs.Prelude.{◌≡◌, ◌≤◌, ◌<◌, length};
+// The first units of a set, by the tie order, or by a look at a step.
+ghost use Rattle.std.specs.Prelude.{◌≡◌, ◌≤◌, ◌<◌};
 ghost use Rattle.units.specs.Sets.{difference, size};
-ghost use Rattle.switch.specs.Looked.{Looked, Ahead};
-ghost use Rattle.switch.specs.Stretches.{Blocks};
 ghost use Rattle.plans.specs.Support.{tie_order, members, first_in, taken};
 ghost use Rattle.switch.specs.Toward.{toward};
-ghost use Rattle.plans.specs.Rows.{ranking_at, steps_in, Rows};
 
-use super::group::{can_pass, group, undecided};
-use super::rows::step_at;
-use super::stretch::{BLOCK, Stretch, block_at};
-use plans::Limits;
+use super::stretch::Stretch;
 use units::{difference, highest, lowest, remove, size, union};
 
-// The unit of s, which has one, that goes first in the tie order, or last. The higher number goes first: this is the house rule, and no other function knows it.
+// The unit of s, which has one, that goes first in the tie order, or last. The higher number goes first: this is the
+// house rule, and no other function knows it.
 fn first_by_tie(s: u64, last: bool) -> u32
     requires { 0 < s }
     ensures { result ≡ first_in (toward last tie_order) (members s) }
@@ -27,121 +22,105 @@ fn cleared(s: u64, k: u64, last: bool) -> u64
     ensures { result ≡ difference s (taken (toward last tie_order) k s) }
 {
     let mut rest = s;
-    let mut left = k;
-    while 0 < left {
-        let u = first_by_tie(rest, last);
-        rest = remove(rest, u);
-        left -= 1;
+    for _ in 0..k {
+        rest = remove(rest, first_by_tie(rest, last));
     }
     rest
 }
 
-// The k units of s that go first in the tie order, or last. They are cleared, or the others are: whichever are fewer.
-pub fn by_tie(s: u64, k: u64, last: bool) -> u64
-    requires { k ≤ size s }
-    ensures { result ≡ taken (toward last tie_order) k s }
-{
-    let others = size(s) as u64 - k;
-    if k < others {
-        return difference(s, cleared(s, k, last));
-    }
-    cleared(s, others, !last)
-}
-
-// What has been found of the first units of a set, and how many are left to find in the rest.
-#[derive(Drop)]
+// The units that go first in an order, or last, as they are picked: those that were found, and how many are left to
+// find in the rest.
+#[derive(Clone, Copy)]
 pub struct Pick {
     pub found: u64,
     pub rest: u64,
     pub left: u64,
+    pub last: bool,
+    pub ghost enough: { left ≤ size rest },
 }
 
-// Of `left` units of `rest` that go first in the ranking from a step on, or last: those that the sets of that step decide, or of some steps taken as one. The
-// others go first in the ranking from the step after them on. Where the sets decide nothing about `rest`, nothing is counted.
-fn look(lower: u64, upper: u64, rest: u64, left: u64, last: bool) -> Pick
-    requires { left ≤ size rest }
-    ensures { Looked last lower upper rest left result }
-{
-    let later = undecided(lower, upper, rest);
-    if later == rest {
-        return Pick {
-            found: 0,
-            rest,
-            left,
-        };
-    }
-    let first = group(lower, upper, rest, last);
-    let many = size(first) as u64;
-    if left <= many {
-        return Pick {
-            found: by_tie(first, left, last),
+impl Pick {
+    ghost use Rattle.switch.specs.Groups.{can_pass};
+    ghost use Rattle.switch.specs.Looked.{picked, Looked};
+
+    // The same with all units found.
+    fn ended(self, found: u64) -> Pick
+        ensures found { result.found ≡ found }
+        ensures none_left { result.left ≡ 0 }
+        ensures last { result.last ≡ self.last }
+    {
+        Pick {
+            found,
             rest: 0,
             left: 0,
-        };
-    }
-    let after = left - many;
-    let others = size(later) as u64;
-    if others <= after {
-        let end = group(lower, upper, rest, !last);
-        return Pick {
-            found: union(union(first, later), by_tie(end, after - others, last)),
-            rest: 0,
-            left: 0,
-        };
-    }
-    Pick {
-        found: first,
-        rest: later,
-        left: after,
-    }
-}
-
-// What a scan looks at next: the block that begins at j, if the units looked for are one of its groups whole and, beyond it, only undecided units, or else
-// the step at j.
-fn ahead(rows: &[u64], blocks: &[u64], j: usize, rest: u64, left: u64, last: bool) -> Stretch
-    requires rows { Rows rows.now }
-    requires blocks { Blocks (steps_in rows.now) blocks.now }
-    requires j_in_bounds { j < length (steps_in rows.now) }
-    requires left_bound { left ≤ size rest }
-    ensures { Ahead last (steps_in rows.now) j rest left result }
-{
-    if j % BLOCK == 0 {
-        let block = block_at(rows, blocks, j);
-        if can_pass(block.lower, block.upper, rest, left, last) {
-            return block;
+            last: self.last,
         }
     }
-    let s = step_at(rows, j);
-    Stretch {
-        lower: s.lower,
-        upper: s.upper,
-        next: j + 1,
-    }
-}
 
-// The k units of c that go first in the ranking of the steps from the one at `from` on, or last.
-pub fn by_rank(rows: &[u64], blocks: &[u64], from: usize, c: u64, k: u64, last: bool) -> u64
-    requires rows { Rows rows.now }
-    requires blocks { Blocks (steps_in rows.now) blocks.now }
-    requires from_in_bounds { from ≤ length (steps_in rows.now) }
-    requires k_bound { k ≤ size c }
-    ensures { result ≡ taken (toward last (ranking_at (steps_in rows.now) from)) k c }
-{
-    let n = rows.len() / Limits::WORDS;
-    let mut found = 0;
-    let mut rest = c;
-    let mut left = k;
-    let mut j = from;
-    while 0 < left {
-        if j == n {
-            return union(found, by_tie(rest, left, last));
+    // The units by the tie order. Of the rest those to be found are cleared, or the others are: whichever are fewer.
+    pub fn by_tie(self) -> u64
+        ensures { result ≡ picked tie_order self }
+    {
+        let others = size(self.rest) as u64 - self.left;
+        if self.left < others {
+            let without = cleared(self.rest, self.left, self.last);
+            return union(self.found, difference(self.rest, without));
         }
-        let s = ahead(rows, blocks, j, rest, left, last);
-        let p = look(s.lower, s.upper, rest, left, last);
-        found = union(found, p.found);
-        rest = p.rest;
-        left = p.left;
-        j = s.next;
+        union(self.found, cleared(self.rest, others, !self.last))
     }
-    found
+
+    // Whether the units to be found are the whole group of a stretch that goes first and, beyond it, only undecided
+    // ones.
+    pub fn can_pass(self, s: Stretch) -> bool
+        ensures { result ≡ can_pass self.last s.lower s.upper self.rest self.left }
+    {
+        let undecided = s.undecided(self.rest);
+        if undecided == self.rest {
+            return true;
+        }
+        let many = size(s.group(self.rest, self.last)) as u64;
+        if self.left < many {
+            return false;
+        }
+        self.left - many <= size(undecided) as u64
+    }
+
+    // Finds the units that the sets of a step decide, or of some steps taken as one. Those left to be found go first
+    // in the ranking from the step after them on. Where the sets decide nothing about the rest, nothing is counted.
+    pub fn look(self, s: Stretch) -> Pick
+        ensures { Looked s self result }
+    {
+        let later = s.undecided(self.rest);
+        if later == self.rest {
+            return self;
+        }
+        let first = s.group(self.rest, self.last);
+        let many = size(first) as u64;
+        if self.left <= many {
+            let among = Pick {
+                found: self.found,
+                rest: first,
+                left: self.left,
+                last: self.last,
+            };
+            return self.ended(among.by_tie());
+        }
+        let after = self.left - many;
+        let others = size(later) as u64;
+        if others <= after {
+            let end = Pick {
+                found: union(self.found, union(first, later)),
+                rest: s.group(self.rest, !self.last),
+                left: after - others,
+                last: self.last,
+            };
+            return self.ended(end.by_tie());
+        }
+        Pick {
+            found: union(self.found, first),
+            rest: later,
+            left: after,
+            last: self.last,
+        }
+    }
 }

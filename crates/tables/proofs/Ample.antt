@@ -1,6 +1,7 @@
--- Where the bound leaves two switches or more to spare, the words `ample_on` and `ample_off` of a step are exact (`ample_on_lem`, `ample_off_lem`). For then a unit can
--- be on, or off, in a step exactly if the step allows a set that has it so. With any unit that may be on it allows one, if there is room for one more
--- than the lower set has, and without any unit that need not be on, if one less than the upper set has is enough (`some_on`, `some_off`).
+-- Where the bound leaves two switches or more to spare, the words `ample_on` and `ample_off` of a step are exact
+-- (`ample_on_lem`, `ample_off_lem`). For then a unit can be on, or off, in a step exactly if the step allows a set
+-- that has it so. With any unit that may be on it allows one, if there is room for one more than the lower set has,
+-- and without any unit that need not be on, if one less than the upper set has is enough (`some_on`, `some_off`).
 use mathlib.Core.Path.{◌≡◌, refl}
 use mathlib.Core.Logic.{⊎_elim, ◌↔◌}
 use mathlib.Core.Bool.{Bool, true, false, cond}
@@ -14,7 +15,7 @@ use lib.Pow.{pow_pos}
 use Rattle.units.specs.Sets.{bit, difference, Subset, insert, remove, size}
 use Rattle.units.proofs.Limits.{fits, some_feasible}
 use Rattle.units.proofs.Sets.{bit_above, bit_difference, bit_full, bit_insert, bit_insert_other, bit_le, bit_remove, bit_remove_other, insert_subset, size_except, size_insert, size_mono, subset_or_missing, subset_remove}
-use Rattle.plans.specs.Rows.{limits, step_at}
+use Rattle.plans.specs.Steps.{limits, step_at}
 use Rattle.plans.specs.Support.{find_support}
 use Rattle.plans.specs.declared.Limits.{Limits}
 use Rattle.plans.specs.Switch.{Allows, Satisfiable, total}
@@ -44,7 +45,8 @@ module _ (u : ℕ) (s : Limits) (f : some_set s ≡ true) where
   abbrev Some : Bool → Type 0
   Some on = (x : ℕ) × (Allows s x × Shows on u x)
 
-  -- it allows one with u exactly if the word has u. If the lower set is as large as any set may be, it is the only one.
+  -- it allows one with u exactly if the word has u. If the lower set is as large as any set may be, it is the only
+  -- one.
   some_on : (bit (ample_on s) u ≡ 1) ↔ Some true
   unfolding ample_on
   some_on = go (ltb (size s.lower) s.greatest) refl ((some_feasible s.lower s.upper s.least s.greatest).0 f)
@@ -97,7 +99,8 @@ module _ (u : ℕ) (s : Limits) (f : some_set s ≡ true) where
 -- ---- the chart
 
 module _ (bound start : ℕ) (ss : List Limits) (f : Satisfiable ss) (h : total start (find_support start ss) + 2 ≤ bound) (i : ℕ) (l : i < length ss) where
-  -- with two switches to spare, some plan within the bound has a unit on in the step at i, or off, if the step allows a set that has it so, and only then
+  -- with two switches to spare, some plan within the bound has a unit on in the step at i, or off, if the step allows
+  -- a set that has it so, and only then
   some_plan : (on : Bool) (u x : ℕ) → (bit x u ≡ 1) ↔ ((y : ℕ) × (Allows (step_at ss i) y × Shows on u y))
       → (bit x u ≡ 1) ↔ SomePlan bound start ss i (Shows on u)
   unfolding step_at

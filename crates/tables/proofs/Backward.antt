@@ -1,6 +1,7 @@
--- The tables of the switches still to come are exact: they say of each neighbour of the plan's set whether the steps that follow need fewer switches
--- from it, or no more (`Right`). A step hands this on from the set t after it to the set p before it, if t is a best set from p and from each
--- neighbour of p some best set is near t (`right_step`); in a run of greedy sets that is so in each step (`later_right`).
+-- The tables of the switches still to come are exact: they say of each neighbour of the plan's set whether the steps
+-- that follow need fewer switches from it, or no more (`Right`). A step hands this on from the set t after it to the
+-- set p before it, if t is a best set from p and from each neighbour of p some best set is near t (`right_step`); in a
+-- run of greedy sets that is so in each step (`later_right`).
 use mathlib.Core.Path.{◌≡◌, refl, sym, ap, subst}
 use mathlib.Core.Logic.{◌⊎◌, inl, inr, ⊎_elim, ◌↔◌}
 use mathlib.Core.Bool.{Bool, true, cond, ◌&&◌, and-eq-true_iff}
@@ -28,9 +29,9 @@ swap x b a = insert (remove x b) a
 
 -- ---- exact tables
 
--- The tables w are exact for `due`, the switches still to come from a set, around the set p. They are fewer from p with a exactly if a is in
--- `saves`, and no more from p without b exactly if b is in `dispensable`. From p with a in place of b they are no more exactly if a is in row b of `even`,
--- and fewer exactly if it is in row b of `gain`.
+-- The tables w are exact for `due`, the switches still to come from a set, around the set p. They are fewer from p
+-- with a exactly if a is in `saves`, and no more from p without b exactly if b is in `dispensable`. From p with a in
+-- place of b they are no more exactly if a is in row b of `even`, and fewer exactly if it is in row b of `gain`.
 pub record Right (due : ℕ → ℕ) (p : ℕ) (w : Later) : Type 0 where
   pub saves : (a : ℕ) → a < 64 → bit p a ≡ 0 → (bit w.saves a ≡ 1) ↔ (due (insert p a) + 1 ≤ due p)
   pub dispensable : (b : ℕ) → b < 64 → bit p b ≡ 1 → (bit w.dispensable b ≡ 1) ↔ (due (remove p b) ≤ due p)
@@ -49,12 +50,14 @@ right_ended due none p = record {
 
 -- ---- a step
 
--- Let a step go from p to t, and let due₀ and due₁ be the switches still to come before and after it. Let t be a best set from p, and let there be
--- from each neighbour of p a best set near t. Then the tables of p are exact if those of t are.
--- From p with a, a set that has a costs one switch less than from p, and the others cost the same. So a is in `saves` exactly if some best set from p
--- has it, and then one near t does: t itself, t with a, or t with a in place of another unit. In the same way, b is in `dispensable` exactly if some best
--- set from p lacks it. From p with a in place of b, a set that has a costs one less, and a set that has b one more. So for a switch less, a best
--- set must have a and lack b. For no more, a best set must have a or lack b, or one that costs one more than these must have a and lack b.
+-- Let a step go from p to t, and let due₀ and due₁ be the switches still to come before and after it. Let t be a best
+-- set from p, and let there be from each neighbour of p a best set near t. Then the tables of p are exact if those of
+-- t are. From p with a, a set that has a costs one switch less than from p, and the others cost the same. So a is in
+-- `saves` exactly if some best set from p has it, and then one near t does: t itself, t with a, or t with a in place
+-- of another unit. In the same way, b is in `dispensable` exactly if some best set from p lacks it. From p with a in
+-- place of b, a set that has a costs one less, and a set that has b one more. So for a switch less, a best set must
+-- have a and lack b. For no more, a best set must have a or lack b, or one that costs one more than these must have a
+-- and lack b.
 module _ (s : Limits) (due₀ due₁ : ℕ → ℕ) (p t : ℕ) (within : s.upper < 2 ^ 64) (allowed : Allows s t) (attained : due₀ p ≡ switches p t + due₁ t)
     (least : (q x : ℕ) → Allows s x → due₀ q ≤ switches q x + due₁ x)
     (near : (u q : ℕ) → ((v : ℕ) → (v ≡ u → ⊥) → bit q v ≤ bit p v) → size (difference p q) ≤ 1
@@ -410,8 +413,8 @@ module _ (s : Limits) (due₀ due₁ : ℕ → ℕ) (p t : ℕ) (within : s.uppe
 
 -- ---- all steps
 
--- from a set that is p but for one unit more and one less, at the most, a run takes a set near the one that it takes from p: both are greedy by one
--- ranking
+-- from a set that is p but for one unit more and one less, at the most, a run takes a set near the one that it takes
+-- from p: both are greedy by one ranking
 near_next : {tie : ℕ → ℕ → Bool} → Ordered tie → (s : Limits) (ss : List Limits) → Satisfiable (s ∷ ss) → (p u q : ℕ)
     → ((v : ℕ) → (v ≡ u → ⊥) → bit q v ≤ bit p v) → size (difference p q) ≤ 1 → Near (next tie s ss p) (next tie s ss q)
 near_next {tie} o s ss f p u q drops =
@@ -420,7 +423,8 @@ near_next {tie} o s ss f p u q drops =
     let same : Raised u r r = record { others = λ v w n m. refl; up = λ w h. h } in
     stable u s s r r p q (next tie s ss p) (next tie s ss q) (rank_ordered o (s ∷ ss)) same (wider_same u s) drops (greedy p) (greedy q)
 
--- So the tables along a run are exact: its set is a best one in each step, and so is the one that it would take from a neighbour of p.
+-- So the tables along a run are exact: its set is a best one in each step, and so is the one that it would take from a
+-- neighbour of p.
 pub later_right : {tie : ℕ → ℕ → Bool} → Ordered tie → (ss : List Limits) → Satisfiable ss → Below 64 ss → (p : ℕ)
     → Right (value tie ss) p (later_from p ss (run tie p ss))
 unfolding later_from run

@@ -1,5 +1,6 @@
--- What one step does to two runs, of which the second ranks unit u higher, before the step in which u is forced (`before_step`): if they are at the
--- same set, or the second has u in place of another unit, then so it is after the step, and both make as many switches in it.
+-- What one step does to two runs, of which the second ranks unit u higher, before the step in which u is forced
+-- (`before_step`): if they are at the same set, or the second has u in place of another unit, then so it is after the
+-- step, and both make as many switches in it.
 use mathlib.Core.Path.{◌≡◌, refl, sym, ap, ◌∙◌, subst}
 use mathlib.Core.Logic.{◌⊎◌, inl, inr}
 use mathlib.Core.Bool.{Bool, true}
@@ -102,8 +103,8 @@ unfolding class
 class_alike s x v w a e =
     omega (arith, a.includes v, a.within v, a.includes w, a.within w, bit_le s.upper v, bit_le s.upper w)
 
--- The step s: r and r' rank the units from it on, and q and q' from the next step on. In r' unit u is raised. Each of r and r' ranks units of a lower
--- class first, and the free units as q and q' do.
+-- The step s: r and r' rank the units from it on, and q and q' from the next step on. In r' unit u is raised. Each of
+-- r and r' ranks units of a lower class first, and the free units as q and q' do.
 module _ (u : ℕ) (s : Limits) (r r' q q' : ℕ → ℕ → Bool) (o : Ordered r) (o' : Ordered r') (up : Raised u r r')
     (classes : (v w : ℕ) → r v w ≡ true → class s v ≤ class s w) (classes' : (v w : ℕ) → r' v w ≡ true → class s v ≤ class s w)
     (free : (v w : ℕ) → class s v ≡ 1 → class s w ≡ 1 → r v w ≡ q v w) (free' : (v w : ℕ) → class s v ≡ 1 → class s w ≡ 1 → r' v w ≡ q' v w) where
@@ -125,7 +126,8 @@ module _ (u : ℕ) (s : Limits) (r r' q q' : ℕ → ℕ → Bool) (o : Ordered 
     },
   )
 
-  -- From the same set: the sizes are the same, a unit that takes the place of another is u, and both units were on before, or both off.
+  -- From the same set: the sizes are the same, a unit that takes the place of another is u, and both units were on
+  -- before, or both off.
   from_same : (p g g' : ℕ) → GreedyIn r s p g → GreedyIn r' s p g' → Onward p p g g'
   from_same p g g' G G' =
       go (even_cases g g' (stable u s s r r' p p g g' o' up (wider_same u s) (λ v n. omega arith) G G' (one_at_most p p u (λ v n. omega arith)))
@@ -183,9 +185,10 @@ module _ (u : ℕ) (s : Limits) (r r' q q' : ℕ → ℕ → Bool) (o : Ordered 
         go (inr x) (inl y) = absurd (omega (arith, (turn' b u fb fu (rw e x) (rw e y)).0, lacks_b, has_u))
         go (inr x) (inr y) = omega arith
 
-    -- No unit c but u takes the place of b. Else, if u is on after both, it joined the first run, so that c was off and ranks after u, which ranks
-    -- after b; but c joined the second run, so that it ranks before b. If u is off after both, it left the second run, so that c was on and ranks
-    -- before u, which ranks before b; but c left the first run, so that b ranks before it.
+    -- No unit c but u takes the place of b. Else, if u is on after both, it joined the first run, so that c was off
+    -- and ranks after u, which ranks after b; but c joined the second run, so that it ranks before b. If u is off
+    -- after both, it left the second run, so that c was on and ranks before u, which ranks before b; but c left the
+    -- first run, so that b ranks before it.
     no_other : (c : ℕ) → (c ≡ u → ⊥) → bit g b ≡ 1 → bit g' b ≡ 0 → bit g c ≡ 0 → bit g' c ≡ 1 → bit g' u ≡ bit g u → ⊥
     no_other c n gb gb' gc gc' e = go (bit_cases g u)
       where
@@ -207,9 +210,10 @@ module _ (u : ℕ) (s : Limits) (r r' q q' : ℕ → ℕ → Bool) (o : Ordered 
             let r-bc = (turn b c fb fc gb gc).1 (omega (arith, same, has_u, bit_le p b)) in
             not_both o' u b W.then (o'.transitive b c u (raised_keeps u r r' up b c n r-bc) r-cu)
 
-    -- If u takes the place of e, they rank as they should. Let e be another unit than b. If e was on, it left the second run, so that u ranks before
-    -- it; b is off and left the first run, so that e ranks before b, which ranks before u. If e was off, it joined the first run, so that it ranks
-    -- before u; b is on and joined the second run, so that it ranks before e, and u ranks before b.
+    -- If u takes the place of e, they rank as they should. Let e be another unit than b. If e was on, it left the
+    -- second run, so that u ranks before it; b is off and left the first run, so that e ranks before b, which ranks
+    -- before u. If e was off, it joined the first run, so that it ranks before u; b is on and joined the second run,
+    -- so that it ranks before e, and u ranks before b.
     in_place : (e : ℕ) → bit g e ≡ 1 → bit g u ≡ 0 → g' ≡ insert (remove g e) u → Onward p p' g g'
     in_place e ge gu is = by (ℕ_discrete e b)
       where
@@ -275,8 +279,8 @@ module _ (u : ℕ) (s : Limits) (r r' q q' : ℕ → ℕ → Bool) (o : Ordered 
         go (inl e) = (inl e, rw e (omega (arith, both_same e, switches_on p p' b u W.has W.lacks W.swapped g)))
         go (inr (e, (c, (ge, (gc, is))))) = swap e c ge gc is (ℕ_discrete c u)
 
-  -- What the step does to two runs. If u is in place of b before it, both units are of the same class. If they are not free, it does not matter which
-  -- of them was on, and both sets have both of them or neither.
+  -- What the step does to two runs. If u is in place of b before it, both units are of the same class. If they are not
+  -- free, it does not matter which of them was on, and both sets have both of them or neither.
   pub before_step : (p p' g g' : ℕ) → GreedyIn r s p g → GreedyIn r' s p' g' → Led r r' u p p'
       → Led q q' u g g' × (switches p g ≡ switches p' g')
   before_step p p' g g' G G' (inl e) = rw e (from_same p g g' G (subst (λ x. GreedyIn r' s x g') e G'))

@@ -1,4 +1,5 @@
--- A set with one unit more, with one less, or with one unit in place of another: its units, the switches to it and from it, and when a step allows it.
+-- A set with one unit more, with one less, or with one unit in place of another: its units, the switches to it and
+-- from it, and when a step allows it.
 use mathlib.Core.Path.{◌≡◌, sym, ap, subst, ◌∙◌}
 use Prim.Native.Nat.{ℕ, ◌+◌, ◌<◌}
 use native.Mathlib.Omega.{arith}

@@ -1,6 +1,6 @@
--- The words `on_by_slack` and `off_by_slack` are the chart (`on_charted`, `off_charted`): unit by unit they say what `cell` says of all plans. With no switch to
--- spare, or with one, that is `Exact`, and with two or more it is `Ample`. Of fewer units than all below d, `off_by_slack` has what the chart has of them
--- (`off_charted_in`).
+-- The words `on_by_slack` and `off_by_slack` are the chart (`on_charted`, `off_charted`): unit by unit they say what
+-- `cell` says of all plans. With no switch to spare, or with one, that is `Exact`, and with two or more it is `Ample`.
+-- Of fewer units than all below d, `off_by_slack` has what the chart has of them (`off_charted_in`).
 use mathlib.Core.Path.{◌≡◌, ap, subst, ◌∙◌}
 use mathlib.Core.Logic.{⊎_elim, ◌↔◌}
 use mathlib.Core.Bool.{Bool, true, false, cond, not, ◌&&◌, ◌||◌}
@@ -15,7 +15,7 @@ use lib.Pow.{pow_mono, pow_pos}
 use Rattle.units.specs.Sets.{bit, union, intersection, difference, Subset, contains, meets, size}
 use Rattle.units.proofs.Sets.{bit_above, bit_cases, bit_difference, bit_full, bit_intersection, bit_le, bit_union, set_ext}
 use Rattle.plans.specs.Plans.{Below, allows, can_be_on, can_be_off}
-use Rattle.plans.specs.Rows.{step_at}
+use Rattle.plans.specs.Steps.{step_at}
 use Rattle.plans.specs.Support.{find_support, tie_order}
 use Rattle.plans.specs.declared.Limits.{Limits}
 use Rattle.plans.specs.Switch.{Satisfiable, total}
@@ -31,7 +31,8 @@ use Rattle.tables.proofs.Words.{bit_passing, in_union, in_difference}
 
 -- ---- the words
 
--- a word is the chart's if it has the units that some plan within the bound has on in the step, or those below d that some has off, and none from d up
+-- a word is the chart's if it has the units that some plan within the bound has on in the step, or those below d that
+-- some has off, and none from d up
 module _ (d bound start : ℕ) (ss : List Limits) (low : Below d ss) (i : ℕ) (l : i < length ss) (x : ℕ) where
   on_is : ((u : ℕ) → (bit x u ≡ 1) ↔ SomePlan bound start ss i (Shows true u)) → x ≡ get_or (can_be_on allows d bound start ss) i 0
   on_is exact =

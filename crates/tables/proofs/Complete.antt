@@ -1,6 +1,6 @@
--- The words of the chart have every unit of a set near the plan's that keeps within the total (`on_complete`, `off_complete`). No feasible set of the
--- step takes fewer switches than the plan's does, be it from a set in which one unit has taken the place of another (`no_fewer`), and one with a unit
--- more takes one switch more (`one_dearer`).
+-- The words of the chart have every unit of a set near the plan's that keeps within the total (`on_complete`,
+-- `off_complete`). No feasible set of the step takes fewer switches than the plan's does, be it from a set in which
+-- one unit has taken the place of another (`no_fewer`), and one with a unit more takes one switch more (`one_dearer`).
 use mathlib.Core.Path.{◌≡◌, refl, ap, subst}
 use mathlib.Core.Logic.{◌⊎◌, inl, inr, ⊎_elim, ⊎_map}
 use mathlib.Core.Bool.{Bool, cond}
@@ -24,9 +24,10 @@ use Rattle.tables.proofs.Words.{in_intersection, in_difference}
 -- ---- the switches of the step
 
 module _ (r : ℕ → ℕ → Bool) (s : Limits) (p t : ℕ) (G : GreedyIn r s p t) where
-  -- The greedy set takes no more switches from p than any feasible set x from q, if q has of the required units none that p lacks, and no more of those
-  -- that may be on. Either all units that are switched on are required: then they are on in x too, and off in q. Or else t has the least number of
-  -- units, and among them every unit of p that may be on.
+  -- The greedy set takes no more switches from p than any feasible set x from q, if q has of the required units none
+  -- that p lacks, and no more of those that may be on. Either all units that are switched on are required: then they
+  -- are on in x too, and off in q. Or else t has the least number of units, and among them every unit of p that may be
+  -- on.
   fewest_from : (q x : ℕ) → Allows s x → ((v : ℕ) → bit s.lower v ≡ 1 → bit q v ≤ bit p v)
       → size (intersection q s.upper) ≤ size (intersection p s.upper) → switches p t ≤ switches q x
   unfolding switches
@@ -82,7 +83,8 @@ module _ (r : ℕ → ℕ → Bool) (s : Limits) (p t : ℕ) (G : GreedyIn r s p
         bit_remove p b,
       ))
 
-  -- and with a free unit more there is one switch more: where the step allows one more, no unit that was on and may be on has left
+  -- and with a free unit more there is one switch more: where the step allows one more, no unit that was on and may be
+  -- on has left
   pub one_dearer : (q u : ℕ) → bit t u ≡ 0 → bit s.upper u ≡ 1 → size t < s.greatest → Beside q → switches p t + 1 ≤ switches q (insert t u)
   unfolding class
   one_dearer q u tu uu room beside = go beside

@@ -1,6 +1,7 @@
--- The words of the chart are exact: with no switch to spare, or with one, a unit is in the word of a step exactly if some feasible plan within so many
--- switches has it on there, or off (`on_exact`, `off_exact`). A set that the words speak of is reached, and the run goes on from it (`some_by`).
--- And if some plan has the unit so, then the run for the steps in which it is forced is one, and its set in the step is near the plan's (`cost`, `near`).
+-- The words of the chart are exact: with no switch to spare, or with one, a unit is in the word of a step exactly if
+-- some feasible plan within so many switches has it on there, or off (`on_exact`, `off_exact`). A set that the words
+-- speak of is reached, and the run goes on from it (`some_by`). And if some plan has the unit so, then the run for the
+-- steps in which it is forced is one, and its set in the step is near the plan's (`cost`, `near`).
 use mathlib.Core.Path.{◌≡◌, sym, ap, subst, ◌∙◌}
 use mathlib.Core.Logic.{◌⊎◌, ⊎_map, ◌↔◌}
 use mathlib.Core.Bool.{Bool, true, false, cond}
@@ -12,7 +13,7 @@ use Rattle.units.specs.Sets.{bit, insert, size}
 use Rattle.units.proofs.Sets.{bit_le}
 use Rattle.plans.specs.Plans.{Below}
 use Rattle.plans.specs.declared.Limits.{Limits}
-use Rattle.plans.specs.Rows.{limits, step_at}
+use Rattle.plans.specs.Steps.{limits, step_at}
 use Rattle.plans.specs.Switch.{Allows, FeasiblePlan, Satisfiable, switches, total}
 use Rattle.plans.proofs.AllPlans.{Shows, SomePlan, allows_at}
 use Rattle.plans.proofs.Laid.{satisfiable_drop, steps_from_lem, below_drop}
@@ -40,7 +41,8 @@ module _ {tie : ℕ → ℕ → Bool} (o : Ordered tie) (u : ℕ) (s : Limits) (
   raised_forced false = raised_off tie u s R
 
   module _ (p q t x : ℕ) where
-    -- so from one set, or from one with the unit in place of another, or with another in its place, the set of the forced step is near
+    -- so from one set, or from one with the unit in place of another, or with another in its place, the set of the
+    -- forced step is near
     near_forced : (on : Bool) → (q ≡ p) ⊎ ((y : ℕ) × SwappedTo on (rank tie (s ∷ R)) (rank tie (forced on u s ∷ R)) u p q y)
         → GreedyIn (rank tie (s ∷ R)) s p t → GreedyIn (rank tie (forced on u s ∷ R)) (forced on u s) q x → Near t x
     near_forced true led G G' =
@@ -56,7 +58,8 @@ module _ {tie : ℕ → ℕ → Bool} (o : Ordered tie) (u : ℕ) (s : Limits) (
         (led_drops r r' u q p back) G' G (led_few r r' u q p back) in
         (b, a)
 
-    -- the unit that is out ranks before the one that is in; so it may be on, and the other is not required, if u is free
+    -- the unit that is out ranks before the one that is in; so it may be on, and the other is not required, if u is
+    -- free
     swapped_class : (on : Bool) (r' : ℕ → ℕ → Bool) (y : ℕ) → SwappedTo on (rank tie (s ∷ R)) r' u p q y → class s u ≡ 1
         → (class s (cond on y u) ≤ 1) × (1 ≤ class s (cond on u y))
     swapped_class true r' y w c = omega (arith, rank_classes tie s R y u w.first)
@@ -66,8 +69,8 @@ module _ {tie : ℕ → ℕ → Bool} (o : Ordered tie) (u : ℕ) (s : Limits) (
 
 module _ {tie : ℕ → ℕ → Bool} (o : Ordered tie) (start : ℕ) (ss : List Limits) (sat : Satisfiable ss) (low : Below 64 ss) (i : ℕ)
     (l : i < length ss) where
-  -- the plan, the step at i and those after it, the plan's sets before and after the step, the units held before it and their rows, the switches up to
-  -- there, and those still to come, with their tables
+  -- the plan, the step at i and those after it, the plan's sets before and after the step, the units held before it
+  -- and their rows, the switches up to there, and those still to come, with their tables
   abbrev plan : List ℕ
   plan = run tie start ss
 

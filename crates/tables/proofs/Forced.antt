@@ -1,5 +1,6 @@
--- A step in which a unit is forced, on or off. It allows those sets of the step that have the unit so (`allows_forced`). So the feasible plans of steps
--- of which one is forced are those that have the unit so there anyway (`feasible_forced`).
+-- A step in which a unit is forced, on or off. It allows those sets of the step that have the unit so
+-- (`allows_forced`). So the feasible plans of steps of which one is forced are those that have the unit so there
+-- anyway (`feasible_forced`).
 use mathlib.Core.Path.{◌≡◌}
 use mathlib.Core.Logic.{◌↔◌}
 use mathlib.Core.Bool.{Bool, true, false}

@@ -1,6 +1,7 @@
--- The rows of the plan are exact. What a row says of the step before it is `Turns` (`in_turned`). If unit a is in the row of unit b after i steps,
--- then the plan's set there with a in place of b can be reached at no more switches (`rows_sound`). And if other steps follow, which rank one unit
--- higher, or lower, then the run for them is at the plan's set, or at one that a row gives, after as many switches (`rows_complete`).
+-- The rows of the plan are exact. What a row says of the step before it is `Turns` (`in_turned`). If unit a is in the
+-- row of unit b after i steps, then the plan's set there with a in place of b can be reached at no more switches
+-- (`rows_sound`). And if other steps follow, which rank one unit higher, or lower, then the run for them is at the
+-- plan's set, or at one that a row gives, after as many switches (`rows_complete`).
 use mathlib.Core.Path.{◌≡◌, refl, sym, ap, ap₂, ◌∙◌, subst}
 use mathlib.Core.Logic.{◌⊎◌, inl, inr, ⊎_elim, ⊎_map, ◌↔◌}
 use mathlib.Core.Bool.{Bool, true, false, cond, not, ◌&&◌, false≢true}
@@ -14,7 +15,7 @@ use Rattle.units.proofs.Limits.{some_feasible}
 use Rattle.units.proofs.Sets.{bit_cases, bit_empty, bit_le, bit_difference, bit_insert, bit_insert_other, bit_remove, bit_remove_other, by_unit, set_ext, outside, unit_below, subset_below}
 use Rattle.plans.specs.Plans.{Below}
 use Rattle.plans.specs.declared.Limits.{Limits}
-use Rattle.plans.specs.Rows.{step_at}
+use Rattle.plans.specs.Steps.{step_at}
 use Rattle.plans.specs.Switch.{Allows, Satisfiable, switches}
 use Rattle.plans.proofs.Greedy.{support_in_lem}
 use Rattle.plans.proofs.Laid.{steps_from_lem, feasible_at}
@@ -113,8 +114,8 @@ module _ (p t h : ℕ) (f : ℕ → ℕ) where
   abbrev From : ℕ → ℕ → Type 0
   From x c = (q : ℕ) × (((q ≡ p) ⊎ ((b : ℕ) × (a : ℕ) × Moved h f p q b a)) × (switches q x ≤ c))
 
-  -- What the rows say is so, if the units held were on before and those in their rows were off: one of these sets is no farther from t with w in place of
-  -- v than p from t.
+  -- What the rows say is so, if the units held were on before and those in their rows were off: one of these sets is
+  -- no farther from t with w in place of v than p from t.
   module _ (held_on : (b : ℕ) → bit h b ≡ 1 → bit p b ≡ 1) (row_off : (b a : ℕ) → Row h f b a → bit p a ≡ 0) where
     by_row : (x b a c : ℕ) → Row h f b a → switches p x + bit x b ≤ c + bit x a → From x c
     by_row x b a c r l =
@@ -155,9 +156,9 @@ module _ (p t h : ℕ) (f : ℕ → ℕ) where
             come_from x w (switches p t) xw else less k
         go (inr (inr (inr r))) = by_row x v w (switches p t) r (omega (arith, less, xv, xw))
 
-  -- Conversely, let x be t with w in place of v, and let q be no farther from x than p from t, where q is p, or p with a in place of b by a row, and
-  -- a is w or b is v. If v was on before and w was off, then p itself is farther from x by one, so that q is by a row, and x has a and lacks b. Then a is
-  -- w or is switched on, and b is v or leaves.
+  -- Conversely, let x be t with w in place of v, and let q be no farther from x than p from t, where q is p, or p with
+  -- a in place of b by a row, and a is w or b is v. If v was on before and w was off, then p itself is farther from x
+  -- by one, so that q is by a row, and x has a and lacks b. Then a is w or is switched on, and b is v or leaves.
   pub row_member : (q x v w : ℕ) → bit t v ≡ 1 → bit t w ≡ 0 → x ≡ insert (remove t v) w
       → (q ≡ p) ⊎ ((b : ℕ) × (a : ℕ) × (Moved h f p q b a × ((a ≡ w) ⊎ (b ≡ v)))) → switches q x ≤ switches p t → Turns p t h f v w
   row_member q x v w tv tw is from l = go from (bit_cases p v) (bit_cases p w)
@@ -368,8 +369,8 @@ module _ {tie : ℕ → ℕ → Bool} (o : Ordered tie) (start : ℕ) (ss : List
       let uw : bit s.upper w ≡ 1 = omega (arith, a.within w, has_new t x v w tv tw is, bit_le s.upper w) in
       ((in_kept i v).1 (tv, lv), (in_rows i l v w).1 ((uw, tw), row_member (at i) t (kept i) (rows i) q x v w tv tw is from c))
 
-  -- After i steps the run where R follow has made as many switches as the plan, and is at the plan's set, or at one that a row gives: it has u in place
-  -- of another unit, or another in place of u.
+  -- After i steps the run where R follow has made as many switches as the plan, and is at the plan's set, or at one
+  -- that a row gives: it has u in place of another unit, or another in place of u.
   abbrev pub ByRow : Bool → ℕ → List Limits → List Limits → ℕ → Type 0
   ByRow on i S R u =
       (spent_at tie start ss i R ≡ spent i) × ((at_with i R ≡ at i) ⊎ ((x : ℕ)

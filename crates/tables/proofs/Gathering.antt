@@ -1,34 +1,32 @@
--- The loops over the units of a set, the lowest first: what is left after one, and what has been gathered with what is still to be gathered.
+-- The loops over the units of a set, the lowest first: what is left after one, and what has been gathered with what
+-- is still to be gathered.
 use mathlib.Core.Path.{◌≡◌, sym, ap, ◌∙◌}
 use mathlib.Core.Logic.{◌⊎◌, inl, inr, ⊎_elim}
-use Prim.Native.Nat.{ℕ, ◌<◌, ◌^◌}
+use Prim.Native.Nat.{ℕ, ◌<◌}
 use native.Mathlib.Decide.{ℕ_discrete}
 use native.Mathlib.Omega.{arith}
-use Rattle.units.specs.Sets.{bit, union, remove, size, Lowest}
-use Rattle.units.proofs.Sets.{bit_cases, bit_empty, bit_le, bit_remove_other, by_unit, remove_le, remove_subset, set_ext, size_remove, unit_below, union_assoc, union_empty_right}
+use Rattle.units.specs.Members.{Taken}
+use Rattle.units.specs.Sets.{bit, union, remove}
+use Rattle.units.proofs.Sets.{bit_cases, bit_empty, bit_le, bit_remove, bit_remove_other, by_unit, remove_subset, set_ext, union_assoc, union_empty_right}
 use Rattle.tables.specs.Tables.{row_count, gathered}
 use Rattle.tables.proofs.Words.{bit_gathered, in_union}
 
 -- ---- what is left
 
-module _ {left b : ℕ} (first : Lowest left b) (word : left < 2 ^ 64) where
-  -- the unit is one of 64
-  pub member_below : b < 64
-  member_below = unit_below 64 left b word first.has
-
-  -- what is left without it is smaller, and a word still
-  pub rest_smaller : size (remove left b) < size left
-  rest_smaller = omega (arith, size_remove left b first.has)
-
-  pub rest_word : remove left b < 2 ^ 64
-  rest_word = omega (arith, remove_le left b)
-
+-- when a unit is taken of those that are left
+module _ {left b rest : ℕ} (taken : Taken left b rest) where
   -- what holds of the units that are done, and of this one, holds of all that are done then
-  pub one_done : (set : ℕ) (P : ℕ → Type 0) → ((v : ℕ) → bit set v ≡ 1 → bit left v ≡ 0 → P v) → (bit set b ≡ 1 → P b)
-      → (v : ℕ) → bit set v ≡ 1 → bit (remove left b) v ≡ 0 → P v
-  one_done set P done this =
-      by_unit b (λ v. bit set v ≡ 1 → bit (remove left b) v ≡ 0 → P v) (λ h z. this h)
-      (λ v n h z. done v h (sym (bit_remove_other left b v n) ∙ z))
+  pub done_on : (set : ℕ) (P : ℕ → Type 0) → ((v : ℕ) → bit set v ≡ 1 → bit left v ≡ 0 → P v) → (bit set b ≡ 1 → P b)
+      → (v : ℕ) → bit set v ≡ 1 → bit rest v ≡ 0 → P v
+  done_on set P done this =
+      by_unit b (λ v. bit set v ≡ 1 → bit rest v ≡ 0 → P v) (λ h z. this h)
+      (λ v n h z. done v h (sym (bit_remove_other left b v n) ∙ ap (λ (x : ℕ). bit x v) (sym taken.2) ∙ z))
+
+  -- a unit that is left then is another, and was left before
+  pub left_then : (v : ℕ) → bit rest v ≡ 1 → (v ≡ b → ⊥) × (bit left v ≡ 1)
+  left_then v h =
+      let still : bit (remove left b) v ≡ 1 = ap (λ (x : ℕ). bit x v) (sym taken.2) ∙ h in
+      (λ e. omega (arith, bit_remove left b, ap (bit (remove left b)) e), omega (arith, remove_subset left b v, bit_le left v))
 
 -- a set that is 0 has no unit left
 pub none_left : (left b : ℕ) → left ≡ 0 → bit left b ≡ 0

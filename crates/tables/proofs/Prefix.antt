@@ -1,7 +1,8 @@
--- The steps that are done, as functions of those that follow. Of the steps ss the first i are done, and the steps R follow, which may be others than
--- those of ss. FindSupport looks ahead, so what it has done depends on R: the set that it is at (`where_at`) and the switches so far (`spent_at`).
--- Where R is the rest of ss, this is its plan (`set_at_lem`, `rest_of_plan`), else its plan for the steps `whole_at` (`sums`). Last, `Reach` says of a set
--- that the first i steps can end in it within a number of switches.
+-- The steps that are done, as functions of those that follow. Of the steps ss the first i are done, and the steps R
+-- follow, which may be others than those of ss. FindSupport looks ahead, so what it has done depends on R: the set
+-- that it is at (`where_at`) and the switches so far (`spent_at`). Where R is the rest of ss, this is its plan
+-- (`set_at_lem`, `rest_of_plan`), else its plan for the steps `whole_at` (`sums`). Last, `Reach` says of a set that
+-- the first i steps can end in it within a number of switches.
 use mathlib.Core.Path.{◌≡◌, refl, sym, ap, ◌∙◌, subst}
 use mathlib.Core.Bool.{Bool}
 use mathlib.Core.List.{List, [], ◌∷◌, ◌++◌}
@@ -10,7 +11,7 @@ use native.Mathlib.Omega.{arith}
 use lib.ListN.{length, get_or, take, drop, set, take-append-drop}
 use lib.Seq.{take-suc, append_snoc, set_split}
 use Rattle.plans.specs.declared.Limits.{Limits}
-use Rattle.plans.specs.Rows.{step_at}
+use Rattle.plans.specs.Steps.{step_at}
 use Rattle.plans.specs.Switch.{Allows, FeasiblePlan, Satisfiable, switches, total}
 use Rattle.plans.proofs.Laid.{steps_from_lem, satisfiable_at}
 use Rattle.plans.proofs.Orders.{Ordered}
@@ -87,8 +88,9 @@ module _ (tie : ℕ → ℕ → Bool) (start : ℕ) (ss : List Limits) where
 
   -- ---- sets that can be reached
 
-  -- The first i steps can end in the set X within c switches, whatever follows: of every feasible plan of the steps that follow there is a feasible
-  -- plan of all steps which goes on with its sets and makes c switches at the most more than that makes from X.
+  -- The first i steps can end in the set X within c switches, whatever follows: of every feasible plan of the steps
+  -- that follow there is a feasible plan of all steps which goes on with its sets and makes c switches at the most
+  -- more than that makes from X.
   abbrev pub Reach : ℕ → ℕ → ℕ → Type 0
   Reach i X c = (R : List Limits) (Q : List ℕ) → FeasiblePlan R Q
       → (P : List ℕ) × (FeasiblePlan (whole_at i R) P × ((total start P ≤ c + total X Q) × ((j : ℕ) → get_or P (i + j) 0 ≡ get_or Q j 0)))

@@ -1,5 +1,5 @@
--- Rankings that differ in how high one unit stands, and what is compared under them: classes of units in a step, near sets, and runs in which the unit
--- has taken the place of another.
+-- Rankings that differ in how high one unit stands, and what is compared under them: classes of units in a step, near
+-- sets, and runs in which the unit has taken the place of another.
 use mathlib.Core.Path.{◌≡◌}
 use mathlib.Core.Logic.{◌⊎◌}
 use mathlib.Core.Bool.{Bool, true}

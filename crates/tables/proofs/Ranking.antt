@@ -1,6 +1,7 @@
--- The ranking as a recursion over the steps, for any tie order: units go by their classes in the step, those that the step leaves free as from the
--- next step on, and the tie order decides among the required and among the forbidden. It fits the steps (`rank_refines`), and it is
--- FindSupport's with that tie order (`ranks_are`). Forcing a unit on raises it and nothing else (`raised_on`), forcing it off lowers it (`raised_off`).
+-- The ranking as a recursion over the steps, for any tie order: units go by their classes in the step, those that the
+-- step leaves free as from the next step on, and the tie order decides among the required and among the forbidden. It
+-- fits the steps (`rank_refines`), and it is FindSupport's with that tie order (`ranks_are`). Forcing a unit on raises
+-- it and nothing else (`raised_on`), forcing it off lowers it (`raised_off`).
 use mathlib.Core.Path.{◌≡◌, refl, sym, ◌∙◌, fun_ext}
 use mathlib.Core.Logic.{◌⊎◌, inl, inr}
 use mathlib.Core.Bool.{Bool, true, false, false≢true}
@@ -69,7 +70,8 @@ module _ (tie : ℕ → ℕ → Bool) (s : Limits) (ss : List Limits) (u v : ℕ
 
 -- ---- the ranking fits the steps
 
--- A unit stands for each that it ranks before. If it is not required now and the other is allowed, then both are free, as its class is not higher.
+-- A unit stands for each that it ranks before. If it is not required now and the other is allowed, then both are free,
+-- as its class is not higher.
 rank_stands : (tie : ℕ → ℕ → Bool) (ss : List Limits) (v w : ℕ) → rank tie ss v w ≡ true → StandsFor ss v w
 unfolding StandsFor class
 rank_stands tie [] v w r = tt
@@ -173,7 +175,8 @@ module _ (tie : ℕ → ℕ → Bool) (u : ℕ) (s s' : Limits) (ss ss' : List L
       go c (no g) (no n) =
           rank_tied tie s' ss' u w (omega arith) (λ e. n (omega arith)) ∙ sym (rank_tied tie s ss u w (omega arith) n) ∙ r
 
-  -- A unit is raised, if it is from the next step on and its class now is no higher, while the other units have the same classes.
+  -- A unit is raised, if it is from the next step on and its class now is no higher, while the other units have the
+  -- same classes.
   raised_by : ((w : ℕ) → (w ≡ u → ⊥) → class s w ≡ class s' w) → class s' u ≤ class s u → Raised u (rank tie ss) (rank tie ss')
       → Raised u (rank tie (s ∷ ss)) (rank tie (s' ∷ ss'))
   raised_by same l r = record {

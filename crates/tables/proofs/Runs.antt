@@ -1,6 +1,7 @@
--- The run of greedy sets for any tie order, and its switches. They are the fewest of all feasible plans (`value_least`); so they are known by what each
--- first set leads to (`value_step`, `value_by`) and change by one at the most with a unit more before (`value_more`). It is
--- FindSupport's plan with that tie order at every step (`run_support`).
+-- The run of greedy sets for any tie order, and its switches. They are the fewest of all feasible plans
+-- (`value_least`); so they are known by what each first set leads to (`value_step`, `value_by`) and change by one at
+-- the most with a unit more before (`value_more`). It is FindSupport's plan with that tie order at every step
+-- (`run_support`).
 use mathlib.Core.Path.{◌≡◌, refl, ap}
 use mathlib.Core.Bool.{Bool}
 use mathlib.Core.List.{List, [], ◌∷◌}

@@ -1,6 +1,7 @@
--- Where the bound leaves two switches or more to spare, a unit can be on, or off, in a step exactly if the step allows a set that has it so (`slack`).
--- For then the step allows a set that has it so and differs from the step's set in FindSupport's plan by one unit more and one unit less at the
--- most (`nearby`), and so costs two switches more at the most (`total_set`).
+-- Where the bound leaves two switches or more to spare, a unit can be on, or off, in a step exactly if the step allows
+-- a set that has it so (`slack`). For then the step allows a set that has it so and differs from the step's set in
+-- FindSupport's plan by one unit more and one unit less at the most (`nearby`), and so costs two switches more at the
+-- most (`total_set`).
 use mathlib.Core.Path.{◌≡◌, refl}
 use mathlib.Core.Logic.{◌⊎◌, inl, inr, ◌↔◌}
 use mathlib.Core.Bool.{Bool, true, false}
@@ -104,8 +105,9 @@ module _ (s : Limits) (p x : ℕ) (a : Allows s p) (b : Allows s x) where
             (omega (arith, size_insert r v (omega (arith, remove_subset p w v)))),
       )
 
-  -- There is a set nearby with unit u on, or off, if x has it so. Where p has it otherwise, u joins p or leaves it; and if p has the greatest number,
-  -- or the least, u takes the place of a unit that x lacks, or a unit of x that p lacks takes its place.
+  -- There is a set nearby with unit u on, or off, if x has it so. Where p has it otherwise, u joins p or leaves it;
+  -- and if p has the greatest number, or the least, u takes the place of a unit that x lacks, or a unit of x that p
+  -- lacks takes its place.
   nearby : (on : Bool) (u : ℕ) → Shows on u x → (y : ℕ) × (Nearby y × Shows on u y)
   nearby true u xu = go (bit_cases p u) (dec_lt (size p) s.greatest)
     where

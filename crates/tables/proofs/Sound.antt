@@ -1,6 +1,7 @@
--- What the words of the chart say of one step, in which the plan goes from the set p to the set t: which neighbours of t are so cheap that the plan's
--- total is kept, or exceeded by one where there is one to spare (`on_word_lem`, `off_word_lem`). So for each unit in a word there is a set of the step that has
--- it so and is good enough (`on_sound`, `off_sound`).
+-- What the words of the chart say of one step, in which the plan goes from the set p to the set t: which neighbours of
+-- t are so cheap that the plan's total is kept, or exceeded by one where there is one to spare (`on_word_lem`,
+-- `off_word_lem`). So for each unit in a word there is a set of the step that has it so and is good enough
+-- (`on_sound`, `off_sound`).
 use mathlib.Core.Path.{◌≡◌, refl, ap}
 use mathlib.Core.Logic.{◌⊎◌, inl, inr, ⊎_map, ◌↔◌}
 use mathlib.Core.Bool.{Bool, true, false, cond, not, ◌&&◌, ◌||◌, and-eq-true_iff}
@@ -17,8 +18,8 @@ use Rattle.tables.proofs.Changed.{to_less, lacks_old, switches_to, allows_more, 
 use Rattle.tables.proofs.Forward.{Row, Turns, Moved, in_turned, turn_to}
 use Rattle.tables.proofs.Words.{or_true, contains_bit, more_true, less_true, in_union, in_intersection, in_difference, in_free, in_held, in_cond, bit_all, meets_some, bit_gathered, bit_passing}
 
--- What is known of a step s from p to t: h has the units held before it, f their rows, `due` the switches still to come from each set, and w the
--- tables of them around t.
+-- What is known of a step s from p to t: h has the units held before it, f their rows, `due` the switches still to
+-- come from each set, and w the tables of them around t.
 pub record Stage (s : Limits) (p t h : ℕ) (f : ℕ → ℕ) (w : Later) (due : ℕ → ℕ) : Type 0 where
   pub word : s.upper < 2 ^ 64
   pub allowed : Allows s t
@@ -30,7 +31,8 @@ pub record Stage (s : Limits) (p t h : ℕ) (f : ℕ → ℕ) (w : Later) (due :
 
 -- ---- what the words say
 
--- from x no more switches are to come than from t and to spare, if it is reached at the plan's switches, and one less else
+-- from x no more switches are to come than from t and to spare, if it is reached at the plan's switches, and one less
+-- else
 abbrev pub Cheap : Bool → (ℕ → ℕ) → ℕ → ℕ → Type 0 → Type 0
 Cheap tight due t x Reached = (Reached × (due x ≤ due t + cond tight 0 1)) ⊎ (due x + 1 ≤ due t + cond tight 0 1)
 
@@ -192,7 +194,8 @@ module _ (tight : Bool) {s : Limits} {p t h : ℕ} {f : ℕ → ℕ} {w : Later}
   abbrev pub Origin : ℕ → Type 0
   Origin q = (q ≡ p) ⊎ ((b : ℕ) × (a : ℕ) × Moved h f p q b a)
 
-  -- the step allows x, and from such a set it takes no more switches, with those still to come, than the plan does and those to spare
+  -- the step allows x, and from such a set it takes no more switches, with those still to come, than the plan does and
+  -- those to spare
   abbrev pub Good : ℕ → Type 0
   Good x = Allows s x × ((q : ℕ) × (Origin q × (switches q x + due x ≤ switches p t + due t + cond tight 0 1)))
 

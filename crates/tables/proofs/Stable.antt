@@ -1,6 +1,6 @@
--- FindSupport's set of a step hardly changes if one unit ranks higher, may be on or must be, and the set before has one other unit less: then it has
--- one unit more at the most, and one less (`stable`). A set so near has one unit in place of another, or one unit more, or one less, or is the same
--- (`near_swap`, `near_in`, `near_out`).
+-- FindSupport's set of a step hardly changes if one unit ranks higher, may be on or must be, and the set before has
+-- one other unit less: then it has one unit more at the most, and one less (`stable`). A set so near has one unit in
+-- place of another, or one unit more, or one less, or is the same (`near_swap`, `near_in`, `near_out`).
 use mathlib.Core.Path.{◌≡◌, refl, sym, ap, ◌∙◌}
 use mathlib.Core.Logic.{◌⊎◌, inl, inr, ⊎_map}
 use mathlib.Core.Bool.{Bool, true, false, false≢true}
@@ -160,7 +160,8 @@ Free s v = (bit s.lower v ≡ 0) × (bit s.upper v ≡ 1)
 pub free_unit : (s : Limits) (x y v : ℕ) → Allows s x → Allows s y → bit x v ≡ 1 → bit y v ≡ 0 → Free s v
 free_unit s x y v a b xv yv = omega (arith, a.within v, b.includes v, bit_le s.upper v)
 
--- of two free units, a greedy set has the one in place of the other only if it was on before and the other was not, or if it ranks before the other
+-- of two free units, a greedy set has the one in place of the other only if it was on before and the other was not, or
+-- if it ranks before the other
 pub in_turn_lem : (r : ℕ → ℕ → Bool) (s : Limits) (p g v w : ℕ) → GreedyIn r s p g → Free s v → Free s w → bit g v ≡ 1 → bit g w ≡ 0
     → (bit p w ≤ bit p v) × (bit p v ≤ bit p w → r v w ≡ true)
 in_turn_lem r s p g v w G (lv, uv) (lw, uw) gv gw = go (bit_cases p v) (bit_cases p w)
@@ -179,11 +180,12 @@ larger r r' s s' p p' g g' v least greatest G G' h lv uv = (
   bit_within p' g' v (λ a b. omega (arith, (G'.leaves v a uv b).0, G.allowed.few)),
 )
 
--- Two greedy sets g and g': in the second, unit u is raised, the step may require or allow it, and no other unit joined the set before.
+-- Two greedy sets g and g': in the second, unit u is raised, the step may require or allow it, and no other unit
+-- joined the set before.
 module _ (u : ℕ) (s s' : Limits) (r r' : ℕ → ℕ → Bool) (p p' g g' : ℕ) (o : Ordered r') (up : Raised u r r') (wide : Wider u s s')
     (drops : (v : ℕ) → (v ≡ u → ⊥) → bit p' v ≤ bit p v) (G : GreedyIn r s p g) (G' : GreedyIn r' s' p' g') where
-  -- Where a unit w other than u takes the place of v, v was on before the first alone. Else v would rank before w in the first, and w before v in the
-  -- second.
+  -- Where a unit w other than u takes the place of v, v was on before the first alone. Else v would rank before w in
+  -- the first, and w before v in the second.
   pub taken_place : (v w : ℕ) → bit g v ≡ 1 → bit g' v ≡ 0 → bit g w ≡ 0 → bit g' w ≡ 1 → (w ≡ u → ⊥) → (bit p v ≡ 1) × (bit p' v ≡ 0)
   taken_place v w gv gv' gw gw' n =
       let lw : bit s.lower w ≡ 0 = omega (arith, G.allowed.includes w) in

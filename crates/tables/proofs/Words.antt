@@ -1,5 +1,5 @@
--- The units of words: when a unit is in a union, an intersection, a difference or a choice of sets, in gathered rows, and among passing units. Beside
--- them, what the tests of a step say.
+-- The units of words: when a unit is in a union, an intersection, a difference or a choice of sets, in gathered rows,
+-- and among passing units. Beside them, what the tests of a step say.
 use mathlib.Core.Path.{◌≡◌, refl, sym, ap, ap₂, ◌∙◌}
 use mathlib.Core.Logic.{◌⊎◌, inl, inr, ⊎_elim, ⊎_map, ◌↔◌}
 use mathlib.Core.Bool.{Bool, true, false, cond, not, ◌&&◌, ◌||◌, false≢true, and-eq-true_iff}
@@ -9,7 +9,7 @@ use native.Mathlib.Omega.{arith}
 use lib.Dec.{eqb}
 use borrow.Author.Tests.{ltb-true, lt-ltb, eqb-true, eq-eqb, ne_eqb}
 use Rattle.units.specs.Sets.{bit, union, intersection, difference, meets, all, contains, insert, size}
-use Rattle.units.proofs.Sets.{bit_cases, bit_le, bit_empty, bit_union, bit_intersection, bit_difference, bit_insert, bit_insert_other, bit_full, outside, some_unit, union_empty_left}
+use Rattle.units.proofs.Sets.{bit_cases, bit_le, bit_empty, bit_union, bit_intersection, bit_difference, bit_insert, bit_insert_other, bit_full, outside, some_unit}
 use Rattle.plans.specs.declared.Limits.{Limits}
 use Rattle.tables.specs.Tables.{gathered, passing, free, held, new, more, less}
 
@@ -73,7 +73,8 @@ in_intersection a b u = omega (arith, bit_intersection a b u, bit_le a u, bit_le
 pub in_difference : (a b u : ℕ) → (bit (difference a b) u ≡ 1) ↔ ((bit a u ≡ 1) × (bit b u ≡ 0))
 in_difference a b u = omega (arith, bit_difference a b u, bit_le a u, bit_le b u)
 
--- those that may be on in a step and are not, those that are on and need not be, those that are switched on, and those that may be on and were not
+-- those that may be on in a step and are not, those that are on and need not be, those that are switched on, and those
+-- that may be on and were not
 pub in_free : (s : Limits) (t u : ℕ) → (bit (free s t) u ≡ 1) ↔ ((bit s.upper u ≡ 1) × (bit t u ≡ 0))
 unfolding free
 in_free s t u = in_difference s.upper t u
@@ -214,14 +215,3 @@ passing_same (suc k) set test test' h =
     go : (t : Bool) → (t ≡ true → test k ≡ test' k) → t && test k ≡ t && test' k
     go true f = f refl
     go false f = refl
-
--- one of two sets has a unit exactly if both joined have one
-pub some_of_either : (a x b y : ℕ) → not (eqb (union (intersection a x) (intersection b y)) 0) ≡ (meets a x || meets b y)
-unfolding meets
-some_of_either a x b y = go (intersection a x) (intersection b y) (ℕ_discrete (intersection a x) 0) (ℕ_discrete (intersection b y) 0)
-  where
-    go : (u v : ℕ) → Dec (u ≡ 0) → Dec (v ≡ 0) → not (eqb (union u v) 0) ≡ (not (eqb u 0) || not (eqb v 0))
-    go u v (yes e) d = rw (e, union_empty_left v)
-    go u v (no n) d =
-        let w = some_unit u (omega arith) in
-        rw (ne_eqb u 0 n, ne_eqb (union u v) 0 (λ e. omega (arith, ap (λ (z : ℕ). bit z w.0) e, bit_empty w.0, bit_union u v w.0, w.1)))

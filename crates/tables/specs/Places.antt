@@ -1,11 +1,14 @@
--- How the tables lie in memory: as words in a list, the row of unit b at the place b after some place.
-use Rattle.std.specs.Prelude.{List, ℕ, ◌+◌, get_or}
-use Rattle.tables.specs.Tables.{Later}
+-- How a table lies in memory, and what else the functions take of a plan.
+use Rattle.std.specs.Prelude.{List, ℕ, get_or}
+use Rattle.plans.specs.Steps.{step_at}
+use Rattle.plans.specs.declared.Limits.{Limits}
+use Rattle.tables.specs.Tables.{set_at, held_at}
+use Rattle.tables.specs.declared.PlanStep.{PlanStep}
 
--- the rows from a place on
-abbrev pub rows_in : List ℕ → ℕ → ℕ → ℕ
-rows_in l at = λ b. get_or l (at + b) 0
+-- the rows of a table
+abbrev pub rows_of : List ℕ → ℕ → ℕ
+rows_of table b = get_or table b 0
 
--- what is still to come after some step, from two words and two tables
-abbrev pub later_in : ℕ → ℕ → List ℕ → List ℕ → Later
-later_in saves dispensable even gain = record { saves = saves; dispensable = dispensable; even = rows_in even 0; gain = rows_in gain 0 }
+-- the step at i, with the plan's sets before and after it and the units held before
+abbrev pub plan_step_at : ℕ → List Limits → List ℕ → ℕ → PlanStep
+plan_step_at start ss plan i = record { limits = step_at ss i; before = set_at start plan i; after = get_or plan i 0; held = held_at ss plan i }

@@ -1,12 +1,13 @@
--- The tables from which the chart is read. At a step with limits s the plan goes from the set p to the set t. A neighbour of t has one unit more, or one
--- unit less, or the one in place of the other; row b of a table is the set of the units a of which something holds of t with a in place of b.
--- Forward, `turned` says which neighbours are reached at no more than the plan's switches so far; backward, `Later` says how the switches still to come from
--- a neighbour compare with those from t. `on_word` and `off_word` join them. At the end stand `on_by_slack` and `off_by_slack`, the words of the chart with any
--- number of switches to spare.
+-- The tables from which the chart is read. At a step with limits s the plan goes from the set p to the set t. A
+-- neighbour of t has one unit more, or one unit less, or the one in place of the other; row b of a table is the set of
+-- the units a of which something holds of t with a in place of b. Forward, `turned` says which neighbours are reached
+-- at no more than the plan's switches so far; backward, `Later` says how the switches still to come from a neighbour
+-- compare with those from t. `on_word` and `off_word` join them. At the end stand `on_by_slack` and `off_by_slack`,
+-- the words of the chart with any number of switches to spare.
 use Rattle.std.specs.Prelude.{Bool, cond, not, ◌&&◌, ◌||◌, List, [], ◌∷◌, ℕ, zero, suc, eqb, ltb, get_or, drop}
 use Rattle.units.specs.Sets.{union, intersection, difference, meets, all, contains, insert, size}
 use Rattle.plans.specs.declared.Limits.{Limits}
-use Rattle.plans.specs.Rows.{step_at}
+use Rattle.plans.specs.Steps.{step_at}
 
 -- ---- rows
 
@@ -47,8 +48,9 @@ less s t = ltb s.least (size t)
 
 -- ---- forward
 
--- The units that can be on before the step, in place of none that is on in it, at no more switches: those that are, and those that can be in place of a
--- unit that leaves. Here `h` has the units held in the step before, and f their rows.
+-- The units that can be on before the step, in place of none that is on in it, at no more switches: those that are,
+-- and those that can be in place of a unit that leaves. Here `h` has the units held in the step before, and f their
+-- rows.
 unfoldable pub come : ℕ → ℕ → ℕ → (ℕ → ℕ) → ℕ
 come p t h f = union p (gathered row_count (difference h t) f)
 
@@ -56,8 +58,8 @@ come p t h f = union p (gathered row_count (difference h t) f)
 unfoldable pub row_before : ℕ → (ℕ → ℕ) → ℕ → ℕ
 row_before h f b = cond (contains h b) (f b) 0
 
--- The units that can be on after the step in place of b, which is held, at no more switches: from the free units, those that enter, those that come,
--- whether b was on, and its row before.
+-- The units that can be on after the step in place of b, which is held, at no more switches: from the free units,
+-- those that enter, those that come, whether b was on, and its row before.
 unfoldable pub turned_row : ℕ → ℕ → ℕ → Bool → ℕ → ℕ
 turned_row able entering coming on row = cond (on && not (meets row entering)) (intersection able (union coming row)) able
 
@@ -80,8 +82,9 @@ rows_at start ss plan (suc i) =
 
 -- ---- backward
 
--- The switches still to come from a neighbour of t, against those from t: the units a with which there is one less, the units b without which there
--- are no more, and the rows of units a in place of b with which there are no more, or one less.
+-- The switches still to come from a neighbour of t, against those from t: the units a with which there is one less,
+-- the units b without which there are no more, and the rows of units a in place of b with which there are no more, or
+-- one less.
 pub record Later : Type 0 where
   pub saves : ℕ
   pub dispensable : ℕ
@@ -92,8 +95,8 @@ pub record Later : Type 0 where
 unfoldable pub ended : Later
 ended = record { saves = 0; dispensable = all; even = λ b. all; gain = λ b. 0 }
 
--- The rows of unit b before a step, from its row after, the units that save and those that are dispensable before the step, those held after it, the free ones,
--- and for the gain those that are on after it and those that enter.
+-- The rows of unit b before a step, from its row after, the units that save and those that are dispensable before the
+-- step, those held after it, the free ones, and for the gain those that are on after it and those that enter.
 unfoldable pub even_row : ℕ → ℕ → ℕ → ℕ → ℕ → ℕ → ℕ
 even_row saving sparing staying able b row =
     union saving (union (cond (contains sparing b) all 0) (cond (contains staying b) (intersection row able) 0))
@@ -149,12 +152,13 @@ off_word tight us s t turns w =
     union (difference us t)
     (passing row_count (held s t) (λ b. (less s t && (not tight || contains w.dispensable b)) || meets (in_place tight turns w b) (free s t)))
 
--- With two switches or more to spare the step alone says which. The units that some set has that it allows: all that may be on, if there is room for
--- one more than must be, or those that must.
+-- With two switches or more to spare the step alone says which. The units that some set has that it allows: all that
+-- may be on, if there is room for one more than must be, or those that must.
 unfoldable pub ample_on : Limits → ℕ
 ample_on s = cond (ltb (size s.lower) s.greatest) s.upper s.lower
 
--- The units of `us` that some set lacks that it allows: all that need not be on, if one less than may be on is enough, or those that may not be.
+-- The units of `us` that some set lacks that it allows: all that need not be on, if one less than may be on is enough,
+-- or those that may not be.
 unfoldable pub ample_off : ℕ → Limits → ℕ
 ample_off us s = difference us (cond (ltb s.least (size s.upper)) s.lower s.upper)
 

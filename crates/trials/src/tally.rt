@@ -1,41 +1,51 @@
-// How many trials were made and how many of them came out right, and the line that says so.
-use std::io;
+// How many trials were made and how many of them came out right.
+ghost use Rattle.std.specs.Prelude.{◌≡◌};
+ghost use Rattle.trials.specs.Tallies.{one, both};
 
-#[derive(Clone, Copy)]
+use std::fmt;
+use std::iter::Sum;
+use std::ops::Add;
+
+#[derive(Clone, Copy, Debug, Default, PartialEq, Eq)]
 pub struct Tally {
     pub made: usize,
     pub right: usize,
 }
 
-impl Tally {
-    // One trial.
-    pub fn of(right: bool) -> Tally {
-        if right {
-            return Tally { made: 1, right: 1 };
-        }
-        Tally { made: 1, right: 0 }
-    }
+// One trial.
+impl From<bool> for Tally {
+    ghost from_gives = { λ right tally. tally ≡ one right };
 
-    // No trial.
-    pub fn none() -> Tally {
-        Tally { made: 0, right: 0 }
-    }
-
-    // The trials of both. No sum comes near to where it would wrap.
-    pub fn plus(self, other: Tally) -> Tally {
+    fn from(right: bool) -> Tally {
         Tally {
-            made: std::num::wrapping_add_usize(self.made, other.made),
-            right: std::num::wrapping_add_usize(self.right, other.right),
+            made: 1,
+            right: usize::from(right),
         }
     }
+}
 
-    // Writes a line: the name, then how many are right of how many that were made.
-    pub fn write(self, out: &impl Print, name: &[u8]) -> io::Result<()> {
-        out.write_all(name)?;
-        out.write_all(b": ")?;
-        out.print(self.right)?;
-        out.write_all(b" of ")?;
-        out.print(self.made)?;
-        out.write_all(b" right\n")
+// The trials of both. No sum comes near to the largest number.
+impl Add for Tally {
+    type Output = Tally;
+
+    ghost add_gives = { λ a b all. all ≡ both a b };
+
+    fn add(self, other: Tally) -> Tally {
+        Tally {
+            made: self.made.saturating_add(other.made),
+            right: self.right.saturating_add(other.right),
+        }
+    }
+}
+
+impl Sum<Tally> for Tally {
+    fn sum<I: Iterator<Item = Tally>>(iter: I) -> Tally {
+        iter.fold(Tally::default(), |all, one| all + one)
+    }
+}
+
+impl fmt::Display for Tally {
+    fn fmt<W: fmt::Write>(&self, f: &mut fmt::Formatter<W>) -> fmt::Result {
+        write!(f, "{} of {} right", self.right, self.made)
     }
 }

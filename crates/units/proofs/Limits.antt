@@ -1,5 +1,6 @@
--- The test of a step gives the sizes of its feasible sets, and no other (`sizes_exact`). One way, a feasible set has room for the lower set and fits in the
--- upper one. The other way, units of the upper set join the lower set one by one until it has the size that is asked for.
+-- The test of a step gives the sizes of its feasible sets, and no other (`sizes_exact`). One way, a feasible set has
+-- room for the lower set and fits in the upper one. The other way, units of the upper set join the lower set one by
+-- one until it has the size that is asked for.
 use mathlib.Core.Path.{◌≡◌, refl, sym, ◌∙◌}
 use mathlib.Core.Logic.{◌↔◌}
 use mathlib.Core.Bool.{Bool, true, false, cond, ◌&&◌, and-eq-true_iff, false≢true}
@@ -7,10 +8,10 @@ use Prim.Native.Nat.{ℕ, zero, suc, ◌+◌, ◌-◌, ◌≤◌}
 use native.Mathlib.Omega.{arith}
 use lib.Dec.{leb}
 use borrow.Author.Tests.{leb-true, le-leb}
+use Rattle.std.specs.Prelude.{Option, None, is_some}
 use Rattle.units.specs.Sets.{Subset, is_subset, insert, size}
-use Rattle.units.specs.Limits.{Feasible, least_size, greatest_size, feasible_sizes, HasSize, has_set, has_feasible}
+use Rattle.units.specs.Limits.{Feasible, least_size, greatest_size, between, feasible_sizes, HasSize, InOrder, has_feasible}
 use Rattle.units.specs.declared.Sizes.{Sizes}
-use Rattle.units.specs.declared.Sizes.TheVariants.{Between, NoSet}
 use Rattle.units.proofs.Sets.{insert_subset, size_insert, size_mono, subset_holds, subset_insert, subset_test, unit_outside}
 
 -- two tests that hold in the same cases are the same
@@ -20,14 +21,14 @@ same_test false true f g = g refl
 same_test false false f g = refl
 
 -- a set between two others, with j units more than the lower one
-between : (j lower upper : ℕ) → Subset lower upper → size lower + j ≤ size upper
+set_between : (j lower upper : ℕ) → Subset lower upper → size lower + j ≤ size upper
     → (x : ℕ) × (Subset lower x × (Subset x upper × (size x ≡ size lower + j)))
-between zero lower upper h room = (lower, ((λ u. omega arith), (h, omega arith)))
-between (suc j) lower upper h room =
+set_between zero lower upper h room = (lower, ((λ u. omega arith), (h, omega arith)))
+set_between (suc j) lower upper h room =
     let out = unit_outside upper lower (omega arith) in
     let v = out.0 in
     let grown = size_insert lower v out.1.1 in
-    let rest = between j (insert lower v) upper (insert_subset lower upper v h out.1.0) (omega arith) in
+    let rest = set_between j (insert lower v) upper (insert_subset lower upper v h out.1.0) (omega arith) in
     (rest.0, ((λ u. omega (arith, subset_insert lower v u, rest.1.0 u)), (rest.1.1.0, omega (arith, rest.1.1.1))))
 
 module _ (lower upper least greatest : ℕ) where
@@ -49,13 +50,13 @@ module _ (lower upper least greatest : ℕ) where
   -- and each size between the ends is that of a feasible set
   of_size : Subset lower upper → (k : ℕ) → low ≤ k → k ≤ high → SomeOfSize k
   of_size h k l m =
-      let (x, (includes, (within, is))) = between (k - size lower) lower upper h (omega arith) in
+      let (x, (includes, (within, is))) = set_between (k - size lower) lower upper h (omega arith) in
       (x, (record { includes = includes; within = within; enough = omega (arith, is); few = omega (arith, is) }, omega (arith, is)))
 
-  -- What holds of the two ends, where the lower set is within the upper one and the ends are in order, and of `NoSet`, where no set is feasible, holds of what
-  -- the test gives.
-  pub either_way : (P : Sizes → Type 0) → (Subset lower upper → low ≤ high → P (Between low high))
-      → (((x : ℕ) → Feasible lower upper least greatest x → ⊥) → P NoSet) → P (feasible_sizes lower upper least greatest)
+  -- What holds of the two ends, where the lower set is within the upper one and the ends are in order, and of `None`,
+  -- where no set is feasible, holds of what the test gives.
+  pub either_way : (P : Option Sizes → Type 0) → (Subset lower upper → low ≤ high → P (between low high))
+      → (((x : ℕ) → Feasible lower upper least greatest x → ⊥) → P None) → P (feasible_sizes lower upper least greatest)
   unfolding feasible_sizes
   either_way P some none = go (is_subset lower upper && leb low high) refl
     where
@@ -64,7 +65,7 @@ module _ (lower upper least greatest : ℕ) where
           let (l, m) = between_ends x f in
           simp (subset_test lower upper (λ u. omega (arith, f.includes u, f.within u)), le-leb low high (omega arith))
 
-      go : (t : Bool) → (is_subset lower upper && leb low high) ≡ t → P (cond t (Between low high) NoSet)
+      go : (t : Bool) → (is_subset lower upper && leb low high) ≡ t → P (cond t (between low high) None)
       go true e = let p = (and-eq-true_iff (is_subset lower upper) (leb low high)).0 e in some (subset_holds lower upper p.0) (leb-true low high p.1)
       go false e = none (λ x f. false≢true (sym e ∙ passes x f))
 
@@ -76,17 +77,14 @@ module _ (lower upper least greatest : ℕ) where
       (λ none. (λ (x, (f, is)). none x f, λ z. absurd z))
 
   -- the least is at the most the greatest, so that both are sizes of feasible sets
-  pub sizes_ordered : (a b : ℕ) → feasible_sizes lower upper least greatest ≡ Between a b → a ≤ b
-  sizes_ordered a b =
-      either_way (λ z. z ≡ Between a b → a ≤ b)
-      (λ h o e. let l : low ≡ a = cc in let m : high ≡ b = cc in omega arith)
-      (λ none e. let never : ◌≡◌ {A = ℕ} 0 1 = cc in absurd (omega arith))
+  pub sizes_ordered : InOrder (feasible_sizes lower upper least greatest)
+  sizes_ordered = either_way InOrder (λ h o. o) (λ none. tt)
 
   -- there is a feasible set exactly if there are sizes
   pub some_feasible : has_feasible lower upper least greatest ≡ true ↔ ((x : ℕ) × Feasible lower upper least greatest x)
   unfolding has_feasible
   some_feasible =
-      either_way (λ z. has_set z ≡ true ↔ ((x : ℕ) × Feasible lower upper least greatest x))
+      either_way (λ z. is_some z ≡ true ↔ ((x : ℕ) × Feasible lower upper least greatest x))
       (λ h o. (λ t. let (x, (f, is)) = of_size h low (omega arith) o in (x, f), λ w. refl))
       (λ none. (λ t. absurd (false≢true t), λ (x, f). absurd (none x f)))
 

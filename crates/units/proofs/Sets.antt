@@ -1,7 +1,8 @@
--- Laws on sets of units. A set is known by its units (`set_ext`), each operation by the units of its result (`bit_union` and so on),
--- and a size by what one unit more or less does to it and by the list of the units (`size_insert`, `size_units`).
--- Sets that differ in one unit are compared at that unit and at the others (`by_unit`), and their sizes by what they are at it (`size_except`).
--- On digits the intersection is `min`, the union `max` and the difference `-`, so that omega proves each identity of sets unit by unit.
+-- Laws on sets of units. A set is known by its units (`set_ext`), each operation by the units of its result
+-- (`bit_union` and so on), and a size by what one unit more or less does to it and by the list of the units
+-- (`size_insert`, `size_units`). Sets that differ in one unit are compared at that unit and at the others (`by_unit`),
+-- and their sizes by what they are at it (`size_except`). On digits the intersection is `min`, the union `max` and the
+-- difference `-`, so that omega proves each identity of sets unit by unit.
 use mathlib.Core.Path.{◌≡◌, refl, sym, ap, ap₂, ◌∙◌, subst}
 use mathlib.Core.Logic.{◌⊎◌, inl, inr, ⊎_elim, ◌↔◌}
 use mathlib.Core.Bool.{true, false, cond}

@@ -1,4 +1,5 @@
--- The machine's operations on words of k bits, as sets: a shifted one is a single unit, and a mask with a complement is a difference.
+-- The machine's operations on words of k bits, as sets: a shifted one is a single unit, and a mask with a complement
+-- is a difference.
 use mathlib.Core.Path.{◌≡◌, refl, sym, ap, ◌∙◌, subst}
 use mathlib.Core.Logic.{◌⊎◌, inl, inr, ⊎_elim}
 use mathlib.Core.Bool.{not}

@@ -1,5 +1,6 @@
--- Sets of units as numbers. A set is a number in which unit u has weight 2 ^ u, so that the digits of a number in base two say which units are in it.
--- A reader should look at `bit`, from which a set's units are known, and at `size` and `units_below`, of which a law in proofs/ says that they agree.
+-- Sets of units as numbers. A set is a number in which unit u has weight 2 ^ u, so that the digits of a number in base
+-- two say which units are in it. A reader should look at `bit`, from which a set's units are known, and at `size` and
+-- `units_below`, of which a law in proofs/ says that they agree.
 use Rattle.std.specs.Prelude.{◌≡◌, ℕ, zero, suc, ◌-◌, ◌/◌, ◌%◌, ◌^◌, ◌≤◌, ◌<◌, List, [], ◌∷◌, ◌++◌, Bool, not, cond, eqb, leb}
 use Rattle.std.specs.Int.Bits.{bit_and, bit_or}
 use Rattle.std.specs.Int.Count.{ones}

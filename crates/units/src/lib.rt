@@ -1,17 +1,25 @@
 // Sets of units: a set is a u64 in which unit u has weight 2^u.
 //
-// Each function is a few machine operations and ensures that its result is the set, size or test that specs/Sets.antt defines, or, for the test of a step,
-// specs/Limits.antt. Those that take a unit require that it is below 64. They serve the crates above; none is an open entry of the library.
+// Each function is a few machine operations and ensures that its result is the set, size or test that specs/Sets.antt
+// defines, or, for the test of a step, specs/Limits.antt. Those that take a unit require that it is below 64. They
+// serve the crates above; none is an open entry of the library. A set is a plain word, as callers in C lend and get
+// it, and a unit a plain number, which is what shifts take: types of their own would be taken apart wherever they are
+// used.
 #![tactic(auto)]
 
 ghost use Rattle.std.specs.Prelude.{◌≡◌, cond, ℕ, ◌-◌, ◌^◌, ◌<◌, ◌≤◌, min, max};
 ghost use Rattle.units.specs.Sets.{union, intersection, difference, is_subset, meets, contains, insert, remove, size, has_unit_from, Lowest, Highest};
 ghost use Rattle.units.specs.Limits.{feasible_sizes};
 
+pub use members::Units;
+
+mod members;
+
 // All units that a set can have.
 pub const ALL: u64 = u64::MAX;
 
 // The units of either set.
+#[tactic(auto, unfolding(crate::specs::Sets::union))]
 pub fn union(a: u64, b: u64) -> u64
     ensures { result ≡ union a b }
 {
@@ -19,6 +27,7 @@ pub fn union(a: u64, b: u64) -> u64
 }
 
 // The units of both sets.
+#[tactic(auto, unfolding(crate::specs::Sets::intersection))]
 pub fn intersection(a: u64, b: u64) -> u64
     ensures { result ≡ intersection a b }
 {
@@ -33,6 +42,7 @@ pub fn difference(a: u64, b: u64) -> u64
 }
 
 // Whether each unit of a is in b.
+#[tactic(auto, unfolding(crate::specs::Sets::is_subset, crate::specs::Sets::intersection))]
 pub fn is_subset(a: u64, b: u64) -> bool
     ensures { result ≡ is_subset a b }
 {
@@ -40,20 +50,22 @@ pub fn is_subset(a: u64, b: u64) -> bool
 }
 
 // Whether two sets have a common unit.
+#[tactic(auto, unfolding(crate::specs::Sets::meets, crate::specs::Sets::intersection))]
 pub fn meets(a: u64, b: u64) -> bool
     ensures { result ≡ meets a b }
 {
     a & b != 0
 }
 
-// One of two sets.
-pub fn choose(first: bool, a: u64, b: u64) -> u64
+// One of two values: in a loop over rows, where it stands, a branch in its place is slower.
+pub fn choose<T: Copy>(first: bool, a: T, b: T) -> T
     ensures { result ≡ cond first a b }
 {
     if first { a } else { b }
 }
 
 // Whether unit u is in s.
+#[tactic(auto, using(crate::proofs::Words::one_shifted, crate::proofs::Words::and_single), unfolding(crate::specs::Sets::intersection))]
 pub fn contains(s: u64, u: u32) -> bool
     requires { u < 64 }
     ensures { result ≡ contains s u }
@@ -62,6 +74,7 @@ pub fn contains(s: u64, u: u32) -> bool
 }
 
 // s with unit u.
+#[tactic(auto, using(crate::proofs::Words::one_shifted), unfolding(crate::specs::Sets::insert, crate::specs::Sets::union))]
 pub fn insert(s: u64, u: u32) -> u64
     requires { u < 64 }
     ensures { result ≡ insert s u }
@@ -78,13 +91,15 @@ pub fn remove(s: u64, u: u32) -> u64
 }
 
 // How many units are in s.
+#[tactic(auto, unfolding(crate::specs::Sets::size))]
 pub fn size(s: u64) -> u32
     ensures { result ≡ size s }
 {
-    u64::count_ones(s)
+    s.count_ones()
 }
 
 // Whether s has a unit from d up.
+#[tactic(auto, using(crate::proofs::Words::shifted_out), unfolding(crate::specs::Sets::has_unit_from))]
 pub fn has_unit_from(s: u64, d: u32) -> bool
     requires { d ≤ 64 }
     ensures { result ≡ has_unit_from s d }
@@ -106,39 +121,26 @@ pub fn units_below(d: u32) -> u64
     ALL
 }
 
-// What the test of a step answers: the least and the greatest size of a feasible set, or that there is none.
-#[derive(Drop)]
-pub enum Sizes {
-    Between(u32, u32),
-    NoSet,
+// The least and the greatest size of a feasible set.
+#[derive(Clone, Copy, Debug, PartialEq, Eq)]
+pub struct Sizes {
+    pub few: u32,
+    pub many: u32,
 }
 
-// The greater of two numbers, and the lesser.
-fn greater(a: u32, b: u32) -> u32
-    ensures { result ≡ max a b }
-{
-    if a < b { b } else { a }
-}
-
-fn lesser(a: u32, b: u32) -> u32
-    ensures { result ≡ min a b }
-{
-    if a < b { a } else { b }
-}
-
-// The sizes of the sets that include lower, lie within upper and have a size from least to greatest.
-pub fn feasible_sizes(lower: u64, upper: u64, least: u8, greatest: u8) -> Sizes
+// The sizes of the sets that include lower, lie within upper and have a size from least to greatest, if there is one.
+pub fn feasible_sizes(lower: u64, upper: u64, least: u8, greatest: u8) -> Option<Sizes>
     ensures { result ≡ feasible_sizes lower upper least greatest }
 {
     if !is_subset(lower, upper) {
-        return Sizes::NoSet;
+        return None;
     }
-    let few = greater(least as u32, size(lower));
-    let many = lesser(greatest as u32, size(upper));
+    let few = (least as u32).max(size(lower));
+    let many = (greatest as u32).min(size(upper));
     if many < few {
-        return Sizes::NoSet;
+        return None;
     }
-    Sizes::Between(few, many)
+    Some(Sizes { few, many })
 }
 
 // The lowest unit of s, which has one.
@@ -146,10 +148,11 @@ pub fn lowest(s: u64) -> u32
     requires { 0 < s }
     ensures { Lowest s result }
 {
-    u64::trailing_zeros(s)
+    s.trailing_zeros()
 }
 
 // s without its lowest unit, where it has one.
+#[tactic(auto, using(crate::proofs::Words::and_one_less), unfolding(crate::specs::Sets::intersection))]
 pub fn without_lowest(s: u64) -> u64
     requires { 0 < s }
     ensures { (u : ℕ) → Lowest s u → result ≡ remove s u }
@@ -162,5 +165,5 @@ pub fn highest(s: u64) -> u32
     requires { 0 < s }
     ensures { Highest s result }
 {
-    63 - u64::leading_zeros(s)
+    63 - s.leading_zeros()
 }

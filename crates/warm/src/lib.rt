@@ -1,7 +1,7 @@
 // The entries that buyers call, over lent bytes and lent buffers, in the order of include/warm.h, and nothing else.
 // None has a `requires`, and each has one `ensures` that equates its reply and all lent memory with a definition of
-// `promises`, for any input. docs/FORMAT.md has the sheet and the refusal table. Each is one call of a crate below;
-// the two that take a list of structs go through it here, one struct a turn. `warm_c` exports them for C.
+// `promises`, for any input. docs/FORMAT.md has the sheet and the refusal table. Each is one call of a crate below,
+// whose result is replied. `warm_c` exports them for C.
 #![tactic(auto)]
 
 ghost use Rattle.std.specs.Prelude.{◌≡◌, true, false};
@@ -14,34 +14,25 @@ ghost use Rattle.promises.specs.Write.{warm_write};
 
 use editions::convert;
 use format::{ChamberStep, Step};
-use judging::steps::steps_reply;
+use judging::steps::list_steps;
+use judging::verdict::verdict;
+use planning::charting::chart;
 use promises::{Reply, StepsReply, Written};
-use sheet::record::{next_of, step_of};
-use writer::records::put_record;
-use writer::{begin_sheet, records_in};
+use writer::write;
 
 // The steps of a sheet, one struct a step, into the first places of the list. The number in its name goes with the
 // struct: a caller that was compiled for another one finds no such entry.
 pub fn warm_steps_2(sheet: &[u8], steps: &mut [ChamberStep]) -> StepsReply
     ensures { (result, steps.new) ≡ warm_steps sheet.now steps.old }
 {
-    let reply = steps_reply(sheet, steps.len());
-    let n = reply.steps as usize;
-    let mut record = 0;
-    let mut i = 0;
-    while i < n {
-        record = next_of(sheet, record);
-        steps[i] = step_of(sheet, record);
-        i += 1;
-    }
-    reply
+    StepsReply::from(list_steps(sheet, steps))
 }
 
 // The plan of a sheet with the fewest switches, into the first places of the output.
 pub fn warm_plan(sheet: &[u8], plan: &mut [u64]) -> Reply
     ensures { (result, plan.new) ≡ warm_plan sheet.now plan.old }
 {
-    planning::plan::plan(sheet, plan)
+    Reply::from(planning::plan::plan(sheet, plan))
 }
 
 // The chart of a sheet: into the first places of `on` the units that can be on in each step, into those of `off` the
@@ -49,41 +40,33 @@ pub fn warm_plan(sheet: &[u8], plan: &mut [u64]) -> Reply
 pub fn warm_chart(sheet: &[u8], on: &mut [u64], off: &mut [u64]) -> Reply
     ensures { (result, (on.new, off.new)) ≡ warm_chart sheet.now on.old off.old }
 {
-    planning::charting::chart(sheet, on, off)
+    Reply::from(chart(sheet, on, off))
 }
 
 // Whether a plan meets a sheet, and the plan's total, met or not.
 pub fn warm_verdict(sheet: &[u8], plan: &[u64]) -> Reply
     ensures { result ≡ warm_verdict sheet.now plan.now }
 {
-    judging::verdict::verdict(sheet, plan)
+    Reply::from(verdict(sheet, plan))
 }
 
-// The sheet of some steps, in their order, into the first places of the output. A refusal has length 0, so that no
-// record is put.
+// The sheet of some steps, in their order, into the first places of the output.
 pub fn warm_write(units: u8, bound: u16, start: u64, steps: &[Step], sheet: &mut [u8]) -> Written
     ensures { (result, sheet.new) ≡ warm_write units bound start steps.now sheet.old }
 {
-    let reply = begin_sheet(units, bound, start, steps.len(), sheet);
-    let n = records_in(reply.length);
-    let mut i = 0;
-    while i < n {
-        put_record(steps[i], i + 1, n, sheet);
-        i += 1;
-    }
-    reply
+    Written::from(write(units, bound, start, steps, sheet))
 }
 
 // A sheet as one of edition 1, into the first places of the output. One of edition 1 is copied as it is.
 pub fn warm_to_edition_1(sheet: &[u8], out: &mut [u8]) -> Written
     ensures { (result, out.new) ≡ warm_convert true sheet.now out.old }
 {
-    convert(true, sheet, out)
+    Written::from(convert(true, sheet, out))
 }
 
 // A sheet as one of edition 2. One of edition 2 is copied as it is.
 pub fn warm_to_edition_2(sheet: &[u8], out: &mut [u8]) -> Written
     ensures { (result, out.new) ≡ warm_convert false sheet.now out.old }
 {
-    convert(false, sheet, out)
+    Written::from(convert(false, sheet, out))
 }

@@ -1,6 +1,6 @@
-// The entries of `warm` for callers in C, by the names of include/warm.h: each is one call of the entry of its name, and
-// has the same one `ensures` and no `requires`. A caller that Rattle does not check has to meet what the types say: a
-// length is true, and what is lent to be written is lent to nothing else.
+// The entries of `warm` for callers in C, by the names of include/warm.h: each is one call of the entry of its name,
+// and has the same one `ensures` and no `requires`. A caller that Rattle does not check has to meet what the types
+// say: a length is true, and what is lent to be written is lent to nothing else.
 #![tactic(auto)]
 
 ghost use Rattle.std.specs.Prelude.{◌≡◌, true, false};
@@ -48,8 +48,7 @@ pub extern "C" fn warm_verdict(sheet: &[u8], plan: &[u64]) -> Reply
     warm::warm_verdict(sheet, plan)
 }
 
-// The sheet of some steps, in their order, into the first places of the output. A refusal has length 0, so that no
-// record is put.
+// The sheet of some steps, in their order, into the first places of the output.
 #[unsafe(no_mangle)]
 pub extern "C" fn warm_write(
     units: u8,

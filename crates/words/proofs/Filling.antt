@@ -1,4 +1,5 @@
--- A loop that puts words into an output one by one: what the turns to come make of the output is what all make of it as it was.
+-- A loop that puts words into an output one by one: what the turns to come make of the output is what all make of it
+-- as it was.
 use mathlib.Core.Path.{◌≡◌, refl, sym, ap, ap₂, ◌∙◌}
 use mathlib.Core.List.{List, ◌∷◌}
 use Prim.Native.Nat.{ℕ, suc, ◌+◌, ◌≤◌, ◌<◌}

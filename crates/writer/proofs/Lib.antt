@@ -1,3 +1,5 @@
--- `Places` has the laws on texts put into an output one after the other, and `Beginning` those on how a sheet begins.
-pub mod Beginning
-pub mod Places
+-- `Fields` has the bytes of numbers, `Outputs` what an output holds, and `Sheets` a sheet that is written record by
+-- record.
+mod Fields
+pub mod Outputs
+mod Sheets

@@ -1,23 +1,22 @@
 -- `editions::convert` meets its contract: the reader's refusal, or what is made of the sheet that was read.
-use mathlib.Core.Path.{sym, ap, ◌∙◌}
-use lib.ListN.{length}
-use Rattle.sheet.specs.Told.{read_told}
-use Rattle.promises.specs.Convert.{warm_convert}
+use Rattle.std.proofs.Common.{sym, ap, ◌∙◌, ℕ, List, length}
+use Rattle.promises.specs.Convert.{convert_answer, warm_convert}
 use Rattle.promises.specs.Common.{wrote}
+use Rattle.promises.specs.Replies.{bytes_reply}
 use Rattle.promises.proofs.Converts.{convert_unread}
+use Rattle.format.proofs.Told.{err_exit}
 use Rattle.editions.proofs.convert.Goals as goal
 
-pub convert_read-requires : goal.convert_read-requires
-convert_read-requires c = sym c.read.ensures ∙ ap read_told c.in-Read.is
-
-pub returns-in-Refused : goal.returns-in-Refused
+pub returns-in_err-read : goal.returns-in_err-read
 unfolding warm_convert wrote
-returns-in-Refused c =
+returns-in_err-read c =
     let a = c.args in
     let out = a.out.now in
-    let read = sym c.read.ensures ∙ ap read_told c.in-Refused.is in
-    ap (λ r. (r, out)) c.write_refused.ensures ∙ ap (wrote out) (convert_unread a.first a.sheet.now (length out) read)
+    ap (λ r. (bytes_reply r, out)) (err_exit c.from_residual.result c.in_err-read.field-0.0 c.from_residual.ensures.1)
+    ∙ ap (wrote out) (convert_unread a.first a.bytes.now (length out) (sym c.in_err-read.ensures.value))
 
-pub returns-in-Read : goal.returns-in-Read
+pub returns : goal.returns
 unfolding warm_convert
-returns-in-Read c = c.convert_read.ensures
+returns c =
+    let out = c.args.out.now in
+    c.convert_read.ensures ∙ ap (λ (s : List ℕ). wrote out (convert_answer c.args.first s (length out))) c.in_ok-read.ensures.same_bytes

@@ -1,26 +1,24 @@
 -- `listing::list_plan` meets its contract.
-use mathlib.Core.Path.{sym, ap, ◌∙◌}
+use mathlib.Core.Path.{refl, sym, ap}
 use native.Mathlib.Omega.{arith}
-use Rattle.sheet.specs.Told.{read_told}
+use Rattle.promises.specs.Listing.{listing}
 use Rattle.promises.proofs.Read.{was_opened}
 use Rattle.promises.proofs.Listings.{listing_unread}
-use Rattle.writer.proofs.Places.{placed_as, placed_first}
+use Rattle.listing.proofs.Texts.{puts_as, puts_first}
+use Rattle.listing.proofs.list_plan.Goals.{in-Err, in-Ok}
 use Rattle.listing.proofs.list_plan.Goals as goal
 
-pub list_read-requires : goal.list_read-requires
-list_read-requires c =
-    let read = sym c.read.ensures ∙ ap read_told c.in-Read.is in
-    let few = (was_opened c.args.sheet.now read).few in record {
-      sheet_value = read;
-      steps_in_bounds = omega (arith, few);
-      steps_in_bounds_2 = omega (arith, few);
-      longest_listing_in_bounds = omega arith;
+pub put_listing-requires : goal.put_listing-requires
+put_listing-requires c =
+    let few = (was_opened c.args.sheet.now (sym c.in-Ok.ensures.value)).few in record {
+      room_in_steps = omega (arith, few);
+      room_in_sets = omega (arith, few);
+      room = omega arith;
     }
 
-pub returns-in-Refused : goal.returns-in-Refused
-returns-in-Refused c =
-    placed_first
-    (placed_as (listing_unread c.args.sheet.now (sym c.read.ensures ∙ ap read_told c.in-Refused.is)) c.put_refused_line.ensures)
-
-pub returns-in-Read : goal.returns-in-Read
-returns-in-Read c = placed_first c.list_read.ensures
+pub returns : goal.returns
+returns c =
+    elim c.match-read.branch [
+      | in-Err w ↦ rw w.text-is (puts_first refl (puts_as (listing_unread c.args.sheet.now (sym w.in-Err.ensures.value)) w.put_refusal.ensures))
+      | in-Ok w ↦ rw w.text-is (puts_first refl (puts_as (ap listing w.in-Ok.ensures.same_bytes) w.put_listing.ensures))
+    ]

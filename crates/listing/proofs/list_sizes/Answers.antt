@@ -1,23 +1,19 @@
 -- `listing::list_sizes` meets its contract.
-use mathlib.Core.Path.{sym, ap, ◌∙◌}
+use mathlib.Core.Path.{refl, sym, ap}
 use native.Mathlib.Omega.{arith}
-use Rattle.sheet.specs.Told.{read_told}
+use Rattle.promises.specs.Listing.{sizes_listing}
 use Rattle.promises.proofs.Read.{was_opened}
 use Rattle.promises.proofs.Listings.{sizes_unread}
-use Rattle.writer.proofs.Places.{placed_as, placed_first}
+use Rattle.listing.proofs.Texts.{puts_as, puts_first}
+use Rattle.listing.proofs.list_sizes.Goals.{in-Err, in-Ok}
 use Rattle.listing.proofs.list_sizes.Goals as goal
 
 pub put_sizes_lines-requires : goal.put_sizes_lines-requires
-put_sizes_lines-requires c =
-    let read = sym c.read.ensures ∙ ap read_told c.in-Read.is in record {
-      sheet_value = read;
-      steps_in_bounds = omega (arith, (was_opened c.args.sheet.now read).few);
-    }
+put_sizes_lines-requires c = omega (arith, (was_opened c.args.sheet.now (sym c.in-Ok.ensures.value)).few)
 
-pub returns-in-Refused : goal.returns-in-Refused
-returns-in-Refused c =
-    placed_first
-    (placed_as (sizes_unread c.args.sheet.now (sym c.read.ensures ∙ ap read_told c.in-Refused.is)) c.put_refused_line.ensures)
-
-pub returns-in-Read : goal.returns-in-Read
-returns-in-Read c = placed_first c.put_sizes_lines.ensures
+pub returns : goal.returns
+returns c =
+    elim c.match-read.branch [
+      | in-Err w ↦ rw w.text-is (puts_first refl (puts_as (sizes_unread c.args.sheet.now (sym w.in-Err.ensures.value)) w.put_refusal.ensures))
+      | in-Ok w ↦ rw w.text-is (puts_first refl (puts_as (ap sizes_listing w.in-Ok.ensures.same_bytes) w.put_sizes_lines.ensures))
+    ]

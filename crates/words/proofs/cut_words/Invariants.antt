@@ -1,5 +1,4 @@
 -- `words::cut_words` meets its contract. The loop's invariant is `Filling`.
-use Prim.Native.Nat.{◌-◌}
 use lib.ListN.{take}
 use Rattle.chambers.specs.Parts.{cut}
 use Rattle.words.proofs.Filling.{Filling}
@@ -7,6 +6,3 @@ use Rattle.words.proofs.cut_words.Given as goal
 
 abbrev pub invariant-loop-i : goal.invariant-loop-i
 invariant-loop-i l = Filling (cut l.units (take l.n l.from)) l.initial.to l.to l.i
-
-abbrev pub decreases-loop-i : goal.decreases-loop-i
-decreases-loop-i l = l.n - l.i

@@ -1,9 +1,6 @@
--- `all_plans::listed::list` meets its contract, and p goes up to the number of plans.
-use Rattle.std.proofs.Common.{◌-◌, ◌<◌, ◌≤◌}
+-- `all_plans::listed::list` meets its contract: the fewest so far is the total of some plan.
+use Rattle.std.proofs.Common.{◌≤◌, IfSome}
 use Rattle.all_plans.proofs.listed.list.Given as goal
 
-abbrev pub invariant-loop-p : goal.invariant-loop-p
-invariant-loop-p l = (l.plans < 33554432) × (l.listed.fewest ≤ 100)
-
-abbrev pub decreases-loop-p : goal.decreases-loop-p
-decreases-loop-p l = l.plans - l.p
+abbrev pub invariant-loop-plan : goal.invariant-loop-plan
+invariant-loop-plan l = IfSome l.fewest (λ n. n ≤ 24)

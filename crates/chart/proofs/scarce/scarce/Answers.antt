@@ -1,71 +1,56 @@
--- `chart::scarce::scarce` meets its contract. The loop's invariant is `Backed`, over all steps.
-use mathlib.Core.Path.{◌≡◌}
-use Prim.Native.Nat.{ℕ, ◌-◌, ◌*◌, ◌/◌}
-use native.Mathlib.Omega.{arith}
-use lib.ListN.{length, length-replicate}
-use Rattle.plans.specs.Rows.{steps_in}
-use Rattle.tables.specs.Tables.{row_count}
-use Rattle.forward.specs.Kept.{block_size, block_words}
-use Rattle.forward.proofs.Blocks.{kept_copied}
-use Rattle.chart.proofs.Backing.{blocks_begun, blocks_on}
+use Rattle.std.proofs.Common.{◌≡◌, ◌<◌, refl, ◌-◌, ◌*◌, min, arith, length, get_or, []}
+use Rattle.std.proofs.Math.Seq.{get_or-set_same}
+use Rattle.chart.proofs.Backing.{backed_at, blocks_begun, blocks_on}
 use Rattle.chart.proofs.Joins.{joined_all_lem}
 use Rattle.chart.proofs.scarce.scarce.Goals as goal
 
-pub loop-last-init : goal.loop-last-init
-loop-last-init c =
-    let p = c.requires in
-    let n = length (steps_in c.args.steps.now) in
-    (rw p.plan_len (blocks_begun n (omega arith)), omega (arith, c.checkpoint.auto, length-replicate {A = ℕ} block_words 0))
+pub loop-k-init : goal.loop-k-init
+loop-k-init c =
+    let run = c.args.run.now in
+    let n = length run.plan.now in
+    let all : n ≡ min n (16 * c.div_ceil-k.result) = omega (arith, c.div_ceil-k.ensures) in
+    (backed_at (blocks_begun n (omega arith) c.ended-later.ensures) all, c.checkpoint.array_long)
 
-pub turn_block-requires : goal.turn_block-requires
-turn_block-requires c =
-    let a = c.args in
-    let ss = steps_in a.steps.now in
-    let p = c.requires in
-    let l = c.loop-last in
-    let k = (l.last - 1) / block_size in
-    let checkpoints = c.checkpoint in
-    let in-range = c.loop-last-test.true in
-    let rows = c.copy_rows in record {
-      rows = p.rows;
-      plan_len = p.plan_len;
-      first_le_last = omega arith;
-      last_bound = omega arith;
-      last_in_bounds = omega (arith, l.invariant.0.below, p.plan_len);
-      rows_len = omega (arith, rows.auto, l.invariant.1);
-      rows_kept = kept_copied a.start ss a.plan.now (block_size * k) checkpoints.new.checkpoints rows.new.rows (row_count * k) 0 rows.ensures.by_index (checkpoints.ensures k (omega (arith, l.invariant.0.below, p.plan_len)));
+pub turn_block-requires-clause-first_kept : goal.turn_block-requires-clause-first_kept
+turn_block-requires-clause-first_kept c =
+    let l = c.loop-k in
+    let table = get_or c.checkpoint.new.checkpoints (l.k - 1) [] in
+    let room : 0 < length l.tables = omega (arith, l.invariant.1) in
+    rw (get_or-set_same l.tables 0 table [] room) (c.checkpoint.ensures (l.k - 1) (omega (arith, c.div_ceil-k.ensures)))
+
+pub back_block-requires-clause-ready : goal.back_block-requires-clause-ready
+back_block-requires-clause-ready c =
+    record {
+      ordered = omega (arith, c.div_ceil-k.ensures, c.min-last.ensures);
+      few = omega (arith, c.min-last.ensures);
+      inside = omega (arith, c.min-last.ensures);
+      kept = c.turn_block.ensures;
     }
 
-pub back_block-sides-requires : goal.back_block-sides-requires
-back_block-sides-requires c =
-    let p = c.requires in
-    let l = c.loop-last in
-    let in-range = c.loop-last-test.true in
-    let rows = c.turn_block in record {
-      rows = p.rows;
-      plan_len = p.plan_len;
-      ready = record { ordered = omega arith; few = omega arith; inside = omega (arith, l.invariant.0.below, p.plan_len); room = omega (arith, rows.auto, c.copy_rows.auto, l.invariant.1); kept = rows.ensures };
-      to_come = l.invariant.0.come;
-      last_in_bounds = omega (arith, l.invariant.0.below, l.invariant.0.ons.same_long, p.steps_in_bounds);
-      last_in_bounds_2 = omega (arith, l.invariant.0.below, l.invariant.0.offs.same_long, p.steps_in_bounds_2);
-    }
+pub back_block-requires-clause-to_come : goal.back_block-requires-clause-to_come
+back_block-requires-clause-to_come c =
+    let l = c.loop-k in
+    let e : min (length c.args.run.now.plan.now) (16 * l.k) ≡ c.min-last.result = omega (arith, c.min-last.ensures) in
+    (backed_at l.invariant.0 e).come
 
-pub overflow_mul-last : goal.overflow_mul-last
-overflow_mul-last c = omega (arith, c.loop-last.invariant.0.below, c.requires.rows.few)
-
-pub loop-last-preserved : goal.loop-last-preserved
-loop-last-preserved c =
-    let l = c.loop-last in
-    let in-range = c.loop-last-test.true in
-    let b = c.back_block-sides in (
-      blocks_on l.invariant.0 (block_size * ((l.last - 1) / block_size)) (omega arith) b.ensures.to_come_2 b.ensures.on_after b.ensures.off_after,
-      omega (arith, c.turn_block.auto, c.copy_rows.auto, l.invariant.1),
+pub loop-k-preserved : goal.loop-k-preserved
+loop-k-preserved c =
+    let l = c.loop-k in
+    let n = length c.args.run.now.plan.now in
+    let back = c.back_block.ensures in
+    let e : min n (16 * l.k) ≡ c.min-last.result = omega (arith, c.min-last.ensures) in
+    let f : 16 * (l.k - 1) ≡ min n (16 * (l.k - 1)) = omega (arith, c.div_ceil-k.ensures) in (
+      backed_at
+          (blocks_on (backed_at l.invariant.0 e) (16 * (l.k - 1)) (omega (arith, c.div_ceil-k.ensures, c.min-last.ensures))
+          back.to_come_before back.on_after back.off_after) f,
+      c.turn_block.array_long,
     )
 
 pub returns : goal.returns
 returns c =
-    let l = c.loop-last in
-    let e : ◌≡◌ {A = ℕ} l.last 0 = omega (arith, c.loop-last-test.false) in record {
-      on_after = joined_all_lem l.invariant.0.ons e;
-      off_after = joined_all_lem l.invariant.0.offs e;
+    let run = c.args.run.now in
+    let none : min (length run.plan.now) (16 * c.loop-k.k) ≡ 0 = omega arith in
+    let all = rw run.planned at (backed_at c.loop-k.invariant.0 none) in record {
+      on_after = joined_all_lem all.ons refl;
+      off_after = joined_all_lem all.offs refl;
     }

@@ -1,47 +1,42 @@
 -- `planning::plan::plan` meets its contract.
-use mathlib.Core.Path.{sym, ap, ◌∙◌}
-use native.Mathlib.Omega.{arith}
-use lib.ListN.{length}
+use Rattle.std.proofs.Common.{sym, ap, ◌∙◌, length, arith}
+use Rattle.format.specs.Answer.{Given, unless}
 use Rattle.format.specs.Format.{start_of}
-use Rattle.sheet.specs.Told.{read_told}
-use Rattle.promises.specs.Plan.{planned, warm_plan}
+use Rattle.format.proofs.Told.{err_exit}
+use Rattle.promises.specs.Plan.{support_on, bound_causes, planned, warm_plan}
+use Rattle.promises.specs.Replies.{plan_reply}
 use Rattle.promises.proofs.Plans.{plan_refused, plan_short, plan_open}
 use Rattle.promises.proofs.Read.{was_opened}
 use Rattle.planning.proofs.plan.plan.Goals as goal
 
-pub returns-then-plan-x : goal.returns-then-plan-x
+pub returns-in_err-sheet : goal.returns-in_err-sheet
 unfolding warm_plan planned
-returns-then-plan-x c =
-    let a = c.args in
-    let s = a.sheet.now in
-    let out = a.plan.now in
-    let read = sym c.read.ensures ∙ ap read_told c.in-Read.is in
-    ap (λ r. (r, out)) c.refused-then-plan-x.ensures ∙ ap (planned (start_of s) out) (plan_short s (length out) read c.if-plan-x.true)
+returns-in_err-sheet c =
+    let s = c.args.bytes.now in
+    let out = c.args.plan.now in
+    ap (λ r. (plan_reply r, out)) (err_exit c.from_residual.result c.in_err-sheet.field-0.0 c.from_residual.ensures.1)
+    ∙ ap (planned (start_of s) out) (plan_refused s (length out) (sym c.in_err-sheet.ensures.value))
+
+pub returns-then-plan-many : goal.returns-then-plan-many
+unfolding warm_plan planned
+returns-then-plan-many c =
+    let s = c.args.bytes.now in
+    let out = c.args.plan.now in
+    ap (planned (start_of s) out) (plan_short s (length out) (sym c.in_ok-sheet.ensures.value) c.if-plan-many.true)
 
 pub hand_out-requires : goal.hand_out-requires
 hand_out-requires c =
-    let read = sym c.read.ensures ∙ ap read_told c.in-Read.is in
-    let few = (was_opened c.args.sheet.now read).few in record {
-      sheet_value = read;
-      steps_in_bounds = omega (arith, few);
-      steps_in_bounds_2 = omega (arith, few);
-      steps_in_bounds_3 = c.if-plan-x.false;
+    let few = (was_opened c.args.bytes.now (sym c.in_ok-sheet.ensures.value)).few in record {
+      room_in_steps = omega (arith, few);
+      room_in_sets = omega (arith, few);
+      room_in_plan = c.if-plan-many.false;
     }
 
-pub returns-in-Refused : goal.returns-in-Refused
+pub returns : goal.returns
 unfolding warm_plan planned
-returns-in-Refused c =
-    let a = c.args in
-    let s = a.sheet.now in
-    let out = a.plan.now in
-    let read = sym c.read.ensures ∙ ap read_told c.in-Refused.is in
-    ap (λ r. (r, out)) c.refused.ensures ∙ ap (planned (start_of s) out) (plan_refused s (length out) read)
-
-pub returns-else-plan-x : goal.returns-else-plan-x
-unfolding warm_plan planned
-returns-else-plan-x c =
-    let a = c.args in
-    let s = a.sheet.now in
-    let out = a.plan.now in
-    let read = sym c.read.ensures ∙ ap read_told c.in-Read.is in
-    c.hand_out.ensures ∙ ap (planned (start_of s) out) (plan_open s (length out) read c.if-plan-x.false)
+returns c =
+    let s = c.args.bytes.now in
+    let out = c.args.plan.now in
+    c.hand_out.ensures
+    ∙ ap (λ t. planned (start_of t) out (unless (bound_causes t) (Given (support_on t)))) c.in_ok-sheet.ensures.same_bytes
+    ∙ ap (planned (start_of s) out) (plan_open s (length out) (sym c.in_ok-sheet.ensures.value) c.if-plan-many.false)

@@ -1,21 +1,14 @@
--- `sheet::decode::decode` meets its contract.
-use mathlib.Core.Path.{sym, ◌∙◌}
+-- `sheet::decode::decode` meets its contract: the steps of a sheet that passed lie within it.
+use Rattle.std.proofs.Common.{ap, ◌∙◌}
+use Rattle.std.proofs.lemmas.List.Edits.{sets}
+use Rattle.format.proofs.Readings.{opened, read_opens}
+use Rattle.sheet.proofs.Filling.{asked}
 use Rattle.sheet.proofs.decode.decode.Goals as goal
 
-pub decode_by-requires : goal.decode_by-requires
-decode_by-requires c =
-    record {
-      first_value = sym c.if-is_first.true ∙ c.is_first.ensures;
-      inside = c.requires.inside;
-      c_lt_chamber_count = c.requires.c_lt_chamber_count;
-      n_in_bounds = c.requires.n_in_bounds;
-    }
+pub decode_first-requires-clause-inside : goal.decode_first-requires-clause-inside
+decode_first-requires-clause-inside c = (opened c.args.sheet.bytes.now (read_opens c.args.sheet.bytes.now c.args.sheet.passed)).inside
 
-pub decode_by-requires-else-is_first : goal.decode_by-requires-else-is_first
-decode_by-requires-else-is_first c =
-    record {
-      first_value = sym c.if-is_first.false ∙ c.is_first.ensures;
-      inside = c.requires.inside;
-      c_lt_chamber_count = c.requires.c_lt_chamber_count;
-      n_in_bounds = c.requires.n_in_bounds;
-    }
+pub returns : goal.returns
+returns c =
+    let s = c.args.sheet.bytes.now in
+    c.decode_first.ensures ∙ ap (λ xs. sets c.args.steps.now 0 (asked c.args.chamber xs)) (opened s (read_opens s c.args.sheet.passed)).steps

@@ -1,8 +1,7 @@
 -- `sheet::numbers::u32_at` meets its contract.
-use Rattle.format.specs.Numbers.{u32_at}
-use borrow.Author.Rules.{rules}
+use Rattle.std.proofs.Common.{◌∙◌}
+use Rattle.sheet.proofs.LittleEndian.{four_bytes}
 use Rattle.sheet.proofs.numbers.u32_at.Goals as goal
 
 pub returns : goal.returns
-unfolding u32_at
-returns c = search rules
+returns c = c.from_le_bytes.ensures ∙ rw c.bytes_at.ensures (four_bytes c.args.s.now c.args.at)

@@ -1,8 +1,7 @@
 -- `sheet::numbers::u64_at` meets its contract.
-use Rattle.format.specs.Numbers.{u64_at}
-use borrow.Author.Rules.{rules}
+use Rattle.std.proofs.Common.{◌∙◌}
+use Rattle.sheet.proofs.LittleEndian.{eight_bytes}
 use Rattle.sheet.proofs.numbers.u64_at.Goals as goal
 
 pub returns : goal.returns
-unfolding u64_at
-returns c = search rules
+returns c = c.from_le_bytes.ensures ∙ rw c.bytes_at.ensures (eight_bytes c.args.s.now c.args.at)

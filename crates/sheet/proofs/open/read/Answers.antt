@@ -1,24 +1,31 @@
--- `sheet::open::read` meets its contract: a refused header or chain is the whole answer, and a sound one lets the steps be searched.
-use mathlib.Core.Path.{sym, ap, ◌∙◌}
+-- `sheet::open::read` meets its contract: a refused header or chain is the whole answer, and a sound one lets the
+-- steps be searched.
+use Rattle.std.proofs.Common.{sym, ap, ◌∙◌}
 use Rattle.format.specs.declared.Header.{Header}
-use Rattle.format.proofs.Readings.{opened, open_refuses, steps_decide}
-use Rattle.sheet.specs.Told.{read_told}
+use Rattle.format.proofs.Readings.{opened, open_refuses, steps_refuse, steps_pass}
+use Rattle.format.proofs.Told.{told_of_exit}
+use Rattle.sheet.proofs.open.read.Goals.{In_ok-summary}
 use Rattle.sheet.proofs.open.read.Goals as goal
+
+pub returns-in_err-summary-clause-value : goal.returns-in_err-summary-clause-value
+returns-in_err-summary-clause-value c =
+    told_of_exit c.from_residual.result c.in_err-summary.field-0.0 c.from_residual.ensures.1 (λ sheet. sheet.summary)
+    ∙ open_refuses c.args.bytes.now (sym c.in_err-summary.ensures)
 
 pub search_steps-requires : goal.search_steps-requires
 search_steps-requires c =
-    let o = opened c.args.bytes.now (sym c.read_chain.ensures ∙ ap read_told c.in-Read.is) in record {
+    let o = opened c.args.bytes.now (sym c.in_ok-summary.ensures) in record {
       sizes_value = sym (ap (λ (h : Header). h.sizes) o.sound.is_header);
       units_le_unit_limit = o.sound.few_units;
-      sizes_value_2 = o.sound.all_dealt;
+      all_dealt = o.sound.all_dealt;
       steps_le_record_limit = o.few;
       inside = o.inside;
     }
 
-pub returns-in-Refused : goal.returns-in-Refused
-returns-in-Refused c = open_refuses c.args.bytes.now (sym c.read_chain.ensures ∙ ap read_told c.in-Refused.is)
+pub returns-in_err-search_steps-clause-value : goal.returns-in_err-search_steps-clause-value
+returns-in_err-search_steps-clause-value c =
+    told_of_exit c.from_residual-in_err-search_steps.result c.in_err-search_steps.field-0.0 c.from_residual-in_err-search_steps.ensures.1 (λ sheet. sheet.summary)
+    ∙ steps_refuse c.args.bytes.now (sym c.in_ok-summary.ensures) c.in_err-search_steps.ensures
 
-pub returns-in-Read : goal.returns-in-Read
-returns-in-Read c =
-    c.search_steps.ensures
-    ∙ steps_decide c.args.bytes.now (sym c.read_chain.ensures ∙ ap read_told c.in-Read.is)
+pub invariant_of-result : goal.invariant_of-result
+invariant_of-result c = record { passed = sym (steps_pass c.args.bytes.now (sym c.in_ok-summary.ensures) c.in_ok-search_steps.ensures) }

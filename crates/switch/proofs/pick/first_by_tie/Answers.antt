@@ -1,5 +1,6 @@
--- `switch::pick::first_by_tie` meets its contract: the highest unit is the one that none goes before by the house rule, and the lowest the one that goes before
--- none. This proof, the law `tie_ordered` and the function itself are all that depends on the rule.
+-- `switch::pick::first_by_tie` meets its contract: the highest unit is the one that none goes before by the house
+-- rule, and the lowest the one that goes before none. This proof, the law `tie_ordered` and the function itself are
+-- all that depends on the rule.
 use mathlib.Core.Path.{◌≡◌, sym, subst}
 use mathlib.Core.Bool.{Bool, true, false}
 use borrow.Author.Tests.{ltb-true}

@@ -1,0 +1,2 @@
+-- `Listing` is the loop of `put_steps` in lists.
+mod Listing
