@@ -1,7 +1,7 @@
 // The charts of the library, held to the listing.
 use super::numbered::{FeasiblePlans, Plan, total_of};
 use super::small::{Small, all_units};
-use super::trial::Trial;
+use super::trial::{FILL, Trial};
 use trials::tally::Tally;
 use warm::warm_chart;
 
@@ -67,7 +67,10 @@ pub fn try_cells(trial: &Trial) -> Tally {
     if trial.bound < trial.fewest {
         return Tally::default();
     }
-    let mut chart = Cells::default();
+    let mut chart = Cells {
+        on: [FILL; 8],
+        off: [FILL; 8],
+    };
     warm_chart(trial.bytes, &mut chart.on, &mut chart.off);
     compare(trial.sheet, &chart, &Cells::of(trial.sheet, trial.bound))
 }

@@ -8,7 +8,7 @@ use promises::Reply;
 use trials::tally::Tally;
 
 // What a lent place holds before a call.
-const FILL: u64 = 0xaaaa_aaaa_aaaa_aaaa;
+pub const FILL: u64 = 0xaaaa_aaaa_aaaa_aaaa;
 
 // A small sheet as the library gets it, with some bound, and the fewest switches that the listing finds for it.
 #[derive(Clone, Copy)]

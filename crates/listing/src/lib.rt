@@ -48,21 +48,22 @@ impl<'a> Text<'a> {
         self.put_total_line(total);
     }
 
-    // The listing of the plan of a sheet. It works in `steps` and `sets`.
-    fn put_listing(&mut self, sheet: Sheet, steps: &mut [Limits], sets: &mut [u64])
-        requires room_in_steps { sheet.summary.steps ≤ length steps.old }
-        requires room_in_sets { sheet.summary.steps ≤ length sets.old }
-        requires room { HasRoom self.old longest_listing }
+    // The listing of the plan of a sheet. The arrays that it works in are here and not in `list_plan`, which would
+    // clear them for sheets that are refused as well.
+    fn put_listing(&mut self, sheet: Sheet)
+        requires { HasRoom self.old longest_listing }
         ensures { Puts (listing sheet.entry.bytes.now) self.old self.new }
     {
-        let total = plan_read(sheet, steps, sets);
+        let mut steps = [Limits::NONE; Sheet::RECORD_LIMIT];
+        let mut sets = [0u64; Sheet::RECORD_LIMIT];
+        let total = plan_read(sheet, &mut steps, &mut sets);
         if sheet.summary.header.bound < total {
             self.put_refusal(Refusal {
                 cause: Cause::Bound,
                 place: total,
             });
         } else {
-            self.put_plan(sheet.summary, sets, total);
+            self.put_plan(sheet.summary, &sets, total);
         }
     }
 }
@@ -74,11 +75,7 @@ pub fn list_plan(sheet: &[u8], out: &mut [u8; LONGEST]) -> usize
     let mut text = Text { out, len: 0 };
     match read(sheet) {
         Err(refusal) => text.put_refusal(refusal),
-        Ok(sheet) => {
-            let mut steps = [Limits::NONE; Sheet::RECORD_LIMIT];
-            let mut sets = [0u64; Sheet::RECORD_LIMIT];
-            text.put_listing(sheet, &mut steps, &mut sets);
-        }
+        Ok(sheet) => text.put_listing(sheet),
     }
     text.len
 }

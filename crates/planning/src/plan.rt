@@ -12,21 +12,16 @@ use sheet::Sheet;
 use sheet::open::read;
 use words::copy_words;
 
-// Hands out the plan of a sheet, where the output has a place for each step: refusal 9, or the plan, and its total. It
-// works in `steps` and `sets`.
-fn hand_out(
-    sheet: Sheet,
-    steps: &mut [Limits],
-    sets: &mut [u64],
-    plan: &mut [u64],
-) -> Result<u32, Refusal>
-    requires room_in_steps { sheet.summary.steps ≤ length steps.old }
-    requires room_in_sets { sheet.summary.steps ≤ length sets.old }
-    requires room_in_plan { sheet.summary.steps ≤ length plan.old }
+// Hands out the plan of a sheet, where the output has a place for each step: refusal 9, or the plan, and its total. The
+// arrays that it works in are here and not in `plan`, which would clear them for sheets that are refused as well.
+fn hand_out(sheet: Sheet, plan: &mut [u64]) -> Result<u32, Refusal>
+    requires { sheet.summary.steps ≤ length plan.old }
     ensures { let s = sheet.entry.bytes.now in
         (plan_reply result, plan.new) ≡ planned (start_of s) plan.old (unless (bound_causes s) (Given (support_on s))) }
 {
-    let total = plan_read(sheet, steps, sets);
+    let mut steps = [Limits::NONE; Sheet::RECORD_LIMIT];
+    let mut sets = [0u64; Sheet::RECORD_LIMIT];
+    let total = plan_read(sheet, &mut steps, &mut sets);
     let bound = sheet.summary.header.bound;
     if bound < total {
         return Err(Refusal {
@@ -34,7 +29,7 @@ fn hand_out(
             place: total,
         });
     }
-    copy_words(sets, plan, sheet.summary.steps as usize);
+    copy_words(&sets, plan, sheet.summary.steps as usize);
     Ok(total)
 }
 
@@ -50,7 +45,5 @@ pub fn plan(bytes: &[u8], plan: &mut [u64]) -> Result<u32, Refusal>
             place: many,
         });
     }
-    let mut steps = [Limits::NONE; Sheet::RECORD_LIMIT];
-    let mut sets = [0u64; Sheet::RECORD_LIMIT];
-    hand_out(sheet, &mut steps, &mut sets, plan)
+    hand_out(sheet, plan)
 }

@@ -1,6 +1,6 @@
 -- Laws on the steps that are still to come after a record: where one is left, it is that of the next record, and the
--- others follow that record.
-use Rattle.std.proofs.Common.{◌≡◌, ℕ, zero, suc, ◌-◌, ◌<◌, List, [], ◌∷◌, length, refl, ap, subst, arith}
+-- others follow that record; and the first of them lie within the sheet as all do.
+use Rattle.std.proofs.Common.{◌≡◌, ℕ, zero, suc, ◌-◌, ◌≤◌, ◌<◌, List, [], ◌∷◌, length, refl, ap, subst, arith}
 use Rattle.format.specs.Chain.{Within, Inside, steps_from}
 use Rattle.format.specs.Format.{next_of, step_of}
 
@@ -34,3 +34,10 @@ pub steps_long : (s : List ℕ) (at n : ℕ) → length (steps_from s at n) ≡ 
 unfolding steps_from
 steps_long s at zero = refl
 steps_long s at (suc n) = ap suc (steps_long s (next_of s at) n)
+
+-- where so many records after a record lie whole within the sheet, so do the first k of them
+pub first_inside : (s : List ℕ) (at n k : ℕ) → k ≤ n → Inside s at n → Inside s at k
+unfolding Inside
+first_inside s at n zero h all = tt
+first_inside s at zero (suc k) h all = absurd (omega (arith, h))
+first_inside s at (suc n) (suc k) h all = (all.0, (all.1.0, first_inside s (next_of s at) n k (omega (arith, h)) all.1.1))

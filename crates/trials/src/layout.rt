@@ -76,7 +76,7 @@ pub struct Limits {
 }
 
 // The bytes of a sheet, with zeros after its last record.
-#[derive(Drop)]
+#[derive(Clone, Copy)]
 pub struct SheetBytes {
     edition: Edition,
     records: usize,

@@ -7,7 +7,7 @@ use format::Step;
 use sheet::Sheet;
 
 // The number that record j of n holds of the record after it, 0 if it is the last; the header counts as record 0.
-fn link_in(j: usize, n: usize) -> u16
+pub fn link_in(j: usize, n: usize) -> u16
     requires { n ≤ record_limit }
     ensures { result ≡ link_in j n }
 {
@@ -31,7 +31,7 @@ pub(crate) fn header(units: u8, n: usize, bound: u16, start: u64) -> [u8; Sheet:
 }
 
 // Record j of n, which holds a step.
-pub(crate) fn record(x: Step, j: usize, n: usize) -> [u8; Sheet::RECORD_SIZE]
+pub fn record(x: Step, j: usize, n: usize) -> [u8; Sheet::RECORD_SIZE]
     requires { n ≤ record_limit }
     ensures { result ≡ record_bytes x (link_in j n) }
 {

@@ -1,12 +1,11 @@
 -- `editions::convert_read` meets its contract: each way out passes the causes before its own.
 use Rattle.std.proofs.Common.{◌≡◌, ◌<◌, ◌^◌, sym, ap, ap₂, ◌∙◌, ℕ, List, length, arith}
-use Rattle.format.specs.declared.Refusal.{Refusal}
 use Rattle.format.specs.declared.Summary.{Summary}
 use Rattle.format.specs.Format.{sheet_length, is_first, records_of}
-use Rattle.format.specs.Told.{number_of}
 use Rattle.promises.specs.declared.Written.{Written}
-use Rattle.promises.specs.Common.{refused_written, full_written, wrote}
-use Rattle.promises.proofs.Converts.{converted_length, converted_most, convert_outside, convert_short, convert_given}
+use Rattle.promises.specs.Common.{full_written, wrote}
+use Rattle.format.proofs.Records.{length_most}
+use Rattle.promises.proofs.Converts.{converted_length, convert_outside, convert_short, convert_given}
 use Rattle.promises.proofs.Read.{was_opened}
 use Rattle.editions.proofs.convert_read.Goals.{After-sheet_length-length}
 use Rattle.editions.proofs.convert_read.Goals as goal
@@ -17,9 +16,12 @@ returns-then-leaves_out c =
     let out = c.args.out.now in
     rw c.at.ensures (ap (wrote out) (convert_outside c.args.first c.args.sheet.bytes.now (length out) c.args.sheet.passed (sym c.if-leaves_out.ensures)))
 
--- the converted sheet is at the most as long as the longest
+-- the converted sheet is at the most as long as the longest, and so is one with a record for each step alone
 few_bytes : (c : After-sheet_length-length) → c.sheet_length-length.result < 2 ^ 32
-few_bytes c = omega (arith, c.sheet_length-length.ensures, converted_most c.args.first c.args.sheet.bytes.now c.args.sheet.passed)
+few_bytes c =
+    let x = c.args.sheet.summary in
+    let o = was_opened c.args.sheet.bytes.now c.args.sheet.passed in
+    omega (arith, c.sheet_length-length.ensures, length_most c.args.first x.header.records o.sound.few_records, length_most c.args.first x.steps o.few)
 
 pub at-requires-then-out-length : goal.at-requires-then-out-length
 at-requires-then-out-length c =

@@ -2,19 +2,13 @@
 use mathlib.Core.Path.{refl, sym, ap}
 use native.Mathlib.Omega.{arith}
 use Rattle.promises.specs.Listing.{listing}
-use Rattle.promises.proofs.Read.{was_opened}
 use Rattle.promises.proofs.Listings.{listing_unread}
 use Rattle.listing.proofs.Texts.{puts_as, puts_first}
 use Rattle.listing.proofs.list_plan.Goals.{in-Err, in-Ok}
 use Rattle.listing.proofs.list_plan.Goals as goal
 
 pub put_listing-requires : goal.put_listing-requires
-put_listing-requires c =
-    let few = (was_opened c.args.sheet.now (sym c.in-Ok.ensures.value)).few in record {
-      room_in_steps = omega (arith, few);
-      room_in_sets = omega (arith, few);
-      room = omega arith;
-    }
+put_listing-requires c = omega arith
 
 pub returns : goal.returns
 returns c =

@@ -1,12 +1,11 @@
 -- `planning::plan::plan` meets its contract.
-use Rattle.std.proofs.Common.{sym, ap, ◌∙◌, length, arith}
+use Rattle.std.proofs.Common.{sym, ap, ◌∙◌, length}
 use Rattle.format.specs.Answer.{Given, unless}
 use Rattle.format.specs.Format.{start_of}
 use Rattle.format.proofs.Told.{err_exit}
 use Rattle.promises.specs.Plan.{support_on, bound_causes, planned, warm_plan}
 use Rattle.promises.specs.Replies.{plan_reply}
 use Rattle.promises.proofs.Plans.{plan_refused, plan_short, plan_open}
-use Rattle.promises.proofs.Read.{was_opened}
 use Rattle.planning.proofs.plan.plan.Goals as goal
 
 pub returns-in_err-sheet : goal.returns-in_err-sheet
@@ -25,12 +24,7 @@ returns-then-plan-many c =
     ap (planned (start_of s) out) (plan_short s (length out) (sym c.in_ok-sheet.ensures.value) c.if-plan-many.true)
 
 pub hand_out-requires : goal.hand_out-requires
-hand_out-requires c =
-    let few = (was_opened c.args.bytes.now (sym c.in_ok-sheet.ensures.value)).few in record {
-      room_in_steps = omega (arith, few);
-      room_in_sets = omega (arith, few);
-      room_in_plan = c.if-plan-many.false;
-    }
+hand_out-requires c = c.if-plan-many.false
 
 pub returns : goal.returns
 unfolding warm_plan planned

@@ -10,6 +10,11 @@ use Rattle.promises.proofs.Listings.{listing_refused, listing_planned}
 use Rattle.listing.proofs.Texts.{puts_as}
 use Rattle.listing.proofs.text.Text.put_listing.Goals as goal
 
+pub plan_read-total-requires : goal.plan_read-total-requires
+plan_read-total-requires c =
+    let few = (was_opened c.args.sheet.bytes.now c.args.sheet.passed).few in
+    record { room_in_steps = omega (arith, few); room_in_out = omega (arith, few) }
+
 pub returns-then-sheet-total : goal.returns-then-sheet-total
 returns-then-sheet-total c =
     let s = c.args.sheet.bytes.now in
@@ -19,11 +24,8 @@ returns-then-sheet-total c =
 
 pub put_plan-requires : goal.put_plan-requires
 put_plan-requires c =
-    record {
-      few = (was_opened c.args.sheet.bytes.now c.args.sheet.passed).few;
-      all_there = omega (arith, c.requires.room_in_sets, c.plan_read-total.auto);
-      room = c.requires.room;
-    }
+    let few = (was_opened c.args.sheet.bytes.now c.args.sheet.passed).few in
+    record { few = few; all_there = omega (arith, few, c.plan_read-total.auto); room = c.requires }
 
 pub returns-else-sheet-total : goal.returns-else-sheet-total
 returns-else-sheet-total c =
@@ -33,6 +35,6 @@ returns-else-sheet-total c =
     let made = c.plan_read-total.ensures in
     puts_as
     (ap₂ (λ (l : List ℕ) (m : ℕ). plan_lines x.header.units x.steps x.header.bound x.header.start l m)
-    (plan_taken s e c.args.sets.now made.out_after c.requires.room_in_sets) made.value
+    (plan_taken s e _ made.out_after (omega (arith, (was_opened s e).few))) made.value
     ∙ listing_planned s e (omega (arith, made.value, bound_is s e, c.if-sheet-total.false)))
     c.put_plan.ensures

@@ -1,8 +1,0 @@
--- `writer::put_sheet`: the header and the first i records stand in the output.
-use Rattle.std.proofs.Common.{◌≡◌}
-use Rattle.promises.specs.Common.{written}
-use Rattle.writer.proofs.Sheets.{so_far}
-use Rattle.writer.proofs.put_sheet.Given as goal
-
-abbrev pub invariant-loop-i : goal.invariant-loop-i
-invariant-loop-i l = l.out ≡ written (so_far l.units l.bound l.start l.steps l.i) l.fn.out
