@@ -10,7 +10,9 @@ use format::{Cause, ChamberStep, Refusal, Summary};
 use sheet::Sheet;
 use sheet::open::read;
 
-// What is replied where the list has that many places: refusals 1 to 8, 13 and 14, or the sheet.
+// What is replied where the list has that many places: refusals 1 to 8, 13 and 14, or the sheet. It is put into its
+// caller as `read` is put into it: as a function of its own it takes half as long again to refuse a header.
+#[inline(always)]
 pub fn steps_reply<'a>(bytes: &'a [u8], places: usize) -> Result<Sheet<'a>, Refusal>
     ensures value { told_of (λ sheet. campaign_of sheet.bytes.now) result ≡ steps_answer bytes.now places }
     ensures room { IfOk result (λ sheet. (sheet.bytes.now ≡ bytes.now) × (sheet.summary.steps ≤ places)) }
